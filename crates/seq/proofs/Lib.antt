@@ -1,0 +1,4 @@
+pub mod Steps
+pub mod Serial
+pub mod HostSteps
+pub mod Rows
