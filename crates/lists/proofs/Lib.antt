@@ -1,1 +1,5 @@
 pub mod Pad
+pub mod Find
+pub mod Slot
+pub mod FindAs
+pub mod Kept

@@ -1,0 +1,10 @@
+pub mod Grouping
+pub mod Reorder
+pub mod Distinct
+pub mod Data
+pub mod Room
+pub mod Channel
+pub mod Table
+pub mod Record
+pub mod Named
+pub mod Kept

@@ -1,0 +1,136 @@
+-- Laws on looking for an element by a test, putting one in its place and taking some out, for any element type.
+-- Assumes nothing.
+use mathlib.Core.Path.{_≡_, refl, ap, sym, _∙_}
+use mathlib.Core.Bool.{Bool, true, false, not, cond, _&&_, _||_}
+use mathlib.Core.List.{List, [], _∷_, _++_, map}
+use mathlib.Core.Option.{Option, none, some}
+use Prim.Native.Nat.{ℕ, zero, suc, _+_, _-_, _≤_, _<_}
+use native.Mathlib.Omega.{arith}
+use lib.ListN.{length, take, drop, getD, set}
+use Rattle.lists.specs.Pad.{allb, removeAt}
+use Rattle.lists.specs.Find.{later, position, has, findBy, putBy, removeFirst, keepBy, joined}
+
+module _ {A : Type 0} where
+  -- what was put is found
+  pub find-put : (f : A → Bool) (z e : A) (xs : List A) → f e ≡ true → findBy f z (putBy f e xs) ≡ e
+  unfolding findBy putBy
+  find-put f z e [] h = rw h
+  find-put f z e (x ∷ xs) h = at (f x) refl (find-put f z e xs h)
+    where
+      at : (t : Bool) → f x ≡ t → findBy f z (putBy f e xs) ≡ e → findBy f z (cond t (e ∷ xs) (x ∷ putBy f e xs)) ≡ e
+      at true p ih = rw h
+      at false p ih = rw (p, ih)
+
+  -- and nothing else has changed: a test that is false wherever f is true
+  pub find-put-other : (f g : A → Bool) (z e : A) (xs : List A) → g e ≡ false → ((x : A) → f x ≡ true → g x ≡ false) → findBy g z (putBy f e xs) ≡ findBy g z xs
+  unfolding findBy putBy
+  find-put-other f g z e [] h k = rw h
+  find-put-other f g z e (x ∷ xs) h k = at (f x) refl (find-put-other f g z e xs h k)
+    where
+      at : (t : Bool) → f x ≡ t → findBy g z (putBy f e xs) ≡ findBy g z xs → findBy g z (cond t (e ∷ xs) (x ∷ putBy f e xs)) ≡ findBy g z (x ∷ xs)
+      at true p ih = rw (h, k x p)
+      at false p ih = rw ih
+
+  pub has-put : (f : A → Bool) (e : A) (xs : List A) → f e ≡ true → has f (putBy f e xs) ≡ true
+  unfolding has putBy
+  has-put f e [] h = rw h
+  has-put f e (x ∷ xs) h = at (f x) refl (has-put f e xs h)
+    where
+      at : (t : Bool) → f x ≡ t → has f (putBy f e xs) ≡ true → has f (cond t (e ∷ xs) (x ∷ putBy f e xs)) ≡ true
+      at true p ih = rw h
+      at false p ih = rw (p, ih)
+
+  pub has-put-other : (f g : A → Bool) (e : A) (xs : List A) → g e ≡ false → ((x : A) → f x ≡ true → g x ≡ false) → has g (putBy f e xs) ≡ has g xs
+  unfolding has putBy
+  has-put-other f g e [] h k = rw h
+  has-put-other f g e (x ∷ xs) h k = at (f x) refl (has-put-other f g e xs h k)
+    where
+      at : (t : Bool) → f x ≡ t → has g (putBy f e xs) ≡ has g xs → has g (cond t (e ∷ xs) (x ∷ putBy f e xs)) ≡ has g (x ∷ xs)
+      at true p ih = rw (h, k x p)
+      at false p ih = rw ih
+
+  -- an element that is found passes the test
+  pub find-passes : (f : A → Bool) (z : A) (xs : List A) → has f xs ≡ true → f (findBy f z xs) ≡ true
+  unfolding findBy has
+  find-passes f z [] h = absurd (let n : _≡_ {A = ℕ} 0 1 = cc in omega arith)
+  find-passes f z (x ∷ xs) h = at (f x) refl h (λ q. find-passes f z xs q)
+    where
+      at : (t : Bool) → f x ≡ t → (t || has f xs) ≡ true → (has f xs ≡ true → f (findBy f z xs) ≡ true) → f (cond t x (findBy f z xs)) ≡ true
+      at true p q ih = p
+      at false p q ih = ih q
+
+  pub find-absent : (f : A → Bool) (z : A) (xs : List A) → has f xs ≡ false → findBy f z xs ≡ z
+  unfolding findBy has
+  find-absent f z [] h = refl
+  find-absent f z (x ∷ xs) h = at (f x) h (λ q. find-absent f z xs q)
+    where
+      at : (t : Bool) → (t || has f xs) ≡ false → (has f xs ≡ false → findBy f z xs ≡ z) → cond t x (findBy f z xs) ≡ z
+      at true q ih = absurd (let n : _≡_ {A = ℕ} 0 1 = cc in omega arith)
+      at false q ih = ih q
+
+  -- where one is there, the element for none does not matter
+  pub find-here : (f : A → Bool) (z w : A) (xs : List A) → has f xs ≡ true → findBy f z xs ≡ findBy f w xs
+  unfolding findBy has
+  find-here f z w [] h = absurd (let n : _≡_ {A = ℕ} 0 1 = cc in omega arith)
+  find-here f z w (x ∷ xs) h = at (f x) h (λ q. find-here f z w xs q)
+    where
+      at : (t : Bool) → (t || has f xs) ≡ true → (has f xs ≡ true → findBy f z xs ≡ findBy f w xs) → cond t x (findBy f z xs) ≡ cond t x (findBy f w xs)
+      at true q ih = refl
+      at false q ih = ih q
+
+  -- the element found, put back, changes nothing
+  pub put-found : (f : A → Bool) (z : A) (xs : List A) → has f xs ≡ true → putBy f (findBy f z xs) xs ≡ xs
+  unfolding findBy has putBy
+  put-found f z [] h = absurd (let n : _≡_ {A = ℕ} 0 1 = cc in omega arith)
+  put-found f z (x ∷ xs) h = at (f x) h (λ q. put-found f z xs q)
+    where
+      at : (t : Bool) → (t || has f xs) ≡ true → (has f xs ≡ true → putBy f (findBy f z xs) xs ≡ xs) → cond t (cond t x (findBy f z xs) ∷ xs) (x ∷ putBy f (cond t x (findBy f z xs)) xs) ≡ x ∷ xs
+      at true q ih = refl
+      at false q ih = rw (ih q)
+
+  -- put twice, the second stays
+  pub put-put : (f : A → Bool) (d e : A) (xs : List A) → f d ≡ true → putBy f e (putBy f d xs) ≡ putBy f e xs
+  unfolding putBy
+  put-put f d e [] h = rw h
+  put-put f d e (x ∷ xs) h = at (f x) refl (put-put f d e xs h)
+    where
+      at : (t : Bool) → f x ≡ t → putBy f e (putBy f d xs) ≡ putBy f e xs → putBy f e (cond t (d ∷ xs) (x ∷ putBy f d xs)) ≡ cond t (e ∷ xs) (x ∷ putBy f e xs)
+      at true p ih = rw h
+      at false p ih = rw (p, ih)
+
+  pub length-put-here : (f : A → Bool) (e : A) (xs : List A) → has f xs ≡ true → length (putBy f e xs) ≡ length xs
+  unfolding has putBy
+  length-put-here f e [] h = absurd (let n : _≡_ {A = ℕ} 0 1 = cc in omega arith)
+  length-put-here f e (x ∷ xs) h = at (f x) h (λ q. length-put-here f e xs q)
+    where
+      at : (t : Bool) → (t || has f xs) ≡ true → (has f xs ≡ true → length (putBy f e xs) ≡ length xs) → length (cond t (e ∷ xs) (x ∷ putBy f e xs)) ≡ suc (length xs)
+      at true q ih = refl
+      at false q ih = ap suc (ih q)
+
+  pub put-new : (f : A → Bool) (e : A) (xs : List A) → has f xs ≡ false → putBy f e xs ≡ xs ++ (e ∷ [])
+  unfolding has putBy
+  put-new f e [] h = refl
+  put-new f e (x ∷ xs) h = at (f x) h (λ q. put-new f e xs q)
+    where
+      at : (t : Bool) → (t || has f xs) ≡ false → (has f xs ≡ false → putBy f e xs ≡ xs ++ (e ∷ [])) → cond t (e ∷ xs) (x ∷ putBy f e xs) ≡ x ∷ (xs ++ (e ∷ []))
+      at true q ih = absurd (let n : _≡_ {A = ℕ} 0 1 = cc in omega arith)
+      at false q ih = ap (λ (l : List A). x ∷ l) (ih q)
+
+  -- where all pass a test, all do after one that passes it was put
+  pub allb-put : (g f : A → Bool) (e : A) (xs : List A) → allb g xs ≡ true → allb g (putBy f e xs) ≡ g e
+  unfolding allb putBy
+  allb-put g f e [] h = at (g e)
+    where
+      at : (t : Bool) → (t && true) ≡ t
+      at true = refl
+      at false = refl
+  allb-put g f e (x ∷ xs) h = at (f x) (g x) refl h (λ q. allb-put g f e xs q)
+    where
+      one : (t : Bool) → allb g xs ≡ true → (t && allb g xs) ≡ t
+      one true q = q
+      one false q = refl
+
+      at : (t u : Bool) → g x ≡ u → (u && allb g xs) ≡ true → (allb g xs ≡ true → allb g (putBy f e xs) ≡ g e) → allb g (cond t (e ∷ xs) (x ∷ putBy f e xs)) ≡ g e
+      at t false p q ih = absurd (let n : _≡_ {A = ℕ} 0 1 = cc in omega arith)
+      at true true p q ih = one (g e) q
+      at false true p q ih = rw (p, ih q)

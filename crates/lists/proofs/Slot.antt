@@ -1,0 +1,137 @@
+-- Laws on the place of an element that is found by a test, or of a new one after the last: what `findBy` and `putBy` do to an array.
+-- Assumes nothing.
+use mathlib.Core.Path.{_≡_, refl, ap, sym, _∙_}
+use mathlib.Core.Bool.{Bool, true, false, not, cond, _&&_, _||_}
+use mathlib.Core.List.{List, [], _∷_, _++_, map}
+use Prim.Native.Nat.{ℕ, zero, suc, _+_, _-_, _≤_, _<_}
+use native.Mathlib.Omega.{arith}
+use native.Mathlib.Numerals.{add-one}
+use lib.ListN.{length, take, drop, getD, set}
+use lib.Seq.{drop-cons}
+use Rattle.lists.specs.Pad.{pad}
+use Rattle.lists.specs.Find.{has, findBy, putBy, slotOf}
+
+never : {P : Type 0} → _≡_ {A = ℕ} 0 1 → P
+never z = absurd (omega arith)
+
+module _ {A : Type 0} where
+  pub slot-le : (f : A → Bool) (xs : List A) → slotOf f xs ≤ length xs
+  unfolding slotOf
+  slot-le f [] = omega arith
+  slot-le f (x ∷ xs) = at (f x) (slot-le f xs)
+    where
+      at : (t : Bool) → slotOf f xs ≤ length xs → cond t 0 (suc (slotOf f xs)) ≤ suc (length xs)
+      at true ih = omega arith
+      at false ih = omega arith
+
+  -- there is one exactly where its place is below the length
+  pub slot-has : (f : A → Bool) (xs : List A) → has f xs ≡ true → slotOf f xs < length xs
+  unfolding slotOf has
+  slot-has f [] h = never (cc)
+  slot-has f (x ∷ xs) h = at (f x) h (λ q. slot-has f xs q)
+    where
+      at : (t : Bool) → (t || has f xs) ≡ true → (has f xs ≡ true → slotOf f xs < length xs) → cond t 0 (suc (slotOf f xs)) < suc (length xs)
+      at true q ih = omega arith
+      at false q ih = let i : slotOf f xs < length xs = ih q in omega arith
+
+  pub slot-absent : (f : A → Bool) (xs : List A) → has f xs ≡ false → slotOf f xs ≡ length xs
+  unfolding slotOf has
+  slot-absent f [] h = refl
+  slot-absent f (x ∷ xs) h = at (f x) h (λ q. slot-absent f xs q)
+    where
+      at : (t : Bool) → (t || has f xs) ≡ false → (has f xs ≡ false → slotOf f xs ≡ length xs) → cond t 0 (suc (slotOf f xs)) ≡ suc (length xs)
+      at true q ih = never (cc)
+      at false q ih = ap suc (ih q)
+
+  pub has-of-slot : (f : A → Bool) (xs : List A) → slotOf f xs < length xs → has f xs ≡ true
+  has-of-slot f xs h = at (has f xs) refl
+    where
+      at : (t : Bool) → has f xs ≡ t → t ≡ true
+      at true q = refl
+      at false q = absurd (omega (arith, slot-absent f xs q))
+
+  pub absent-of-slot : (f : A → Bool) (xs : List A) → length xs ≤ slotOf f xs → has f xs ≡ false
+  absent-of-slot f xs h = at (has f xs) refl
+    where
+      at : (t : Bool) → has f xs ≡ t → t ≡ false
+      at true q = absurd (omega (arith, slot-has f xs q))
+      at false q = refl
+
+  -- what is found stands at that place
+  pub find-slot : (f : A → Bool) (z : A) (xs : List A) → findBy f z xs ≡ getD xs (slotOf f xs) z
+  unfolding slotOf findBy
+  find-slot f z [] = refl
+  find-slot f z (x ∷ xs) = at (f x) (find-slot f z xs)
+    where
+      at : (t : Bool) → findBy f z xs ≡ getD xs (slotOf f xs) z → cond t x (findBy f z xs) ≡ getD (x ∷ xs) (cond t 0 (suc (slotOf f xs))) z
+      at true ih = refl
+      at false ih = ih
+
+  -- one more after the last where it is new
+  pub length-put : (f : A → Bool) (e : A) (xs : List A) → length xs ≤ slotOf f xs → length (putBy f e xs) ≡ suc (length xs)
+  unfolding slotOf putBy
+  length-put f e [] h = refl
+  length-put f e (x ∷ xs) h = at (f x) h (λ q. length-put f e xs q)
+    where
+      at : (t : Bool) → suc (length xs) ≤ cond t 0 (suc (slotOf f xs)) → (length xs ≤ slotOf f xs → length (putBy f e xs) ≡ suc (length xs)) → length (cond t (e ∷ xs) (x ∷ putBy f e xs)) ≡ suc (suc (length xs))
+      at true q ih = absurd (omega arith)
+      at false q ih = ap suc (ih (omega arith))
+
+  pub length-put-old : (f : A → Bool) (e : A) (xs : List A) → slotOf f xs < length xs → length (putBy f e xs) ≡ length xs
+  unfolding slotOf putBy
+  length-put-old f e [] h = absurd (omega arith)
+  length-put-old f e (x ∷ xs) h = at (f x) h (λ q. length-put-old f e xs q)
+    where
+      at : (t : Bool) → cond t 0 (suc (slotOf f xs)) < suc (length xs) → (slotOf f xs < length xs → length (putBy f e xs) ≡ length xs) → length (cond t (e ∷ xs) (x ∷ putBy f e xs)) ≡ suc (length xs)
+      at true q ih = refl
+      at false q ih = ap suc (ih (omega arith))
+
+module _ {A B : Type 0} where
+  -- the array of a list of A, each in its form g: reading at a place, and storing at the place of an element or after the last
+  pub read-slot : (g : A → B) (n : ℕ) (z : B) (xs : List A) (i : ℕ) (d : B) (w : A) → i < length xs → length xs ≤ n → getD (pad n z (map g xs)) i d ≡ g (getD xs i w)
+  unfolding pad
+  read-slot g n z [] i d w h k = absurd (omega arith)
+  read-slot g zero z (x ∷ xs) i d w h k = absurd (omega arith)
+  read-slot g (suc n) z (x ∷ xs) zero d w h k = refl
+  read-slot g (suc n) z (x ∷ xs) (suc i) d w h k = read-slot g n z xs i d w (omega arith) (omega arith)
+
+  pub set-slot : (g : A → B) (n : ℕ) (z : B) (f : A → Bool) (e : A) (xs : List A) → slotOf f xs < n → length xs ≤ n → set (pad n z (map g xs)) (slotOf f xs) (g e) ≡ pad n z (map g (putBy f e xs))
+  unfolding pad slotOf putBy
+  set-slot g zero z f e xs h k = absurd (omega arith)
+  set-slot g (suc n) z f e [] h k = refl
+  set-slot g (suc n) z f e (x ∷ xs) h k = at (f x) h (λ q. set-slot g n z f e xs q (omega arith))
+    where
+      at : (t : Bool) → cond t 0 (suc (slotOf f xs)) < suc n → (slotOf f xs < n → set (pad n z (map g xs)) (slotOf f xs) (g e) ≡ pad n z (map g (putBy f e xs)))
+          → set (g x ∷ pad n z (map g xs)) (cond t 0 (suc (slotOf f xs))) (g e) ≡ pad (suc n) z (map g (cond t (e ∷ xs) (x ∷ putBy f e xs)))
+      at true q ih = refl
+      at false q ih = ap (λ (l : List B). g x ∷ l) (ih (omega arith))
+
+  -- the list of an array of forms is the list, where the form is undone by a
+  pub take-map-pad : (g : A → B) (a : B → A) (n : ℕ) (z : B) (xs : List A) → ((x : A) → a (g x) ≡ x) → length xs ≤ n → map a (take (length xs) (pad n z (map g xs))) ≡ xs
+  unfolding pad
+  take-map-pad g a zero z [] h k = refl
+  take-map-pad g a (suc n) z [] h k = refl
+  take-map-pad g a zero z (x ∷ xs) h k = absurd (omega arith)
+  take-map-pad g a (suc n) z (x ∷ xs) h k = rw (h x, take-map-pad g a n z xs h (omega arith))
+
+  -- looking in a list of forms is looking in the list
+  pub slot-map : (g : A → B) (f : B → Bool) (h : A → Bool) (xs : List A) → ((x : A) → f (g x) ≡ h x) → slotOf f (map g xs) ≡ slotOf h xs
+  unfolding slotOf
+  slot-map g f h [] e = refl
+  slot-map g f h (x ∷ xs) e = rw (e x, slot-map g f h xs e)
+
+  -- past the list stands the filler
+  pub read-spare : (g : A → B) (n : ℕ) (z : B) (xs : List A) (i : ℕ) (d : B) → length xs ≤ i → i < n → getD (pad n z (map g xs)) i d ≡ z
+  unfolding pad
+  read-spare g zero z xs i d h k = absurd (omega arith)
+  read-spare g (suc n) z [] zero d h k = refl
+  read-spare g (suc n) z [] (suc i) d h k = read-spare g n z [] i d (omega arith) (omega arith)
+  read-spare g (suc n) z (x ∷ xs) zero d h k = absurd (omega arith)
+  read-spare g (suc n) z (x ∷ xs) (suc i) d h k = read-spare g n z xs i d (omega arith) (omega arith)
+
+  pub take-pad-map : (g : A → B) (n : ℕ) (z : B) (xs : List A) → length xs ≤ n → take (length xs) (pad n z (map g xs)) ≡ map g xs
+  unfolding pad
+  take-pad-map g zero z [] k = refl
+  take-pad-map g (suc n) z [] k = refl
+  take-pad-map g zero z (x ∷ xs) k = absurd (omega arith)
+  take-pad-map g (suc n) z (x ∷ xs) k = ap (λ (l : List B). g x ∷ l) (take-pad-map g n z xs (omega arith))

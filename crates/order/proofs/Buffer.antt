@@ -1,0 +1,177 @@
+-- The buffer holds the first copies past the missing place, in sending order: the insertion search keeps that and drops
+-- exactly repeats, and moving successors takes exactly those up to the next missing place. Assumes nothing.
+use mathlib.Core.Path.{_≡_, refl, ap, sym, _∙_}
+use mathlib.Core.Option.{Option, none, some}
+use mathlib.Core.List.{List, [], _∷_, _++_, map, append-assoc, append-nil}
+use Prim.Native.Nat.{ℕ, zero, suc, _+_, _≤_, _<_}
+use native.Mathlib.Omega.{arith}
+use native.Mathlib.Nat.{add-suc, add-zero}
+use native.Mathlib.Decide.{decLt}
+use lib.ListN.{length, getD, length-append, List·getD-append}
+use lib.Seq.{getD-append-add, getD-append-seam, take-append-seam, drop-append-seam, append-snoc}
+use borrow.Author.Tests.{eq-eqb, ne-eqb}
+use Rattle.seq.specs.declared.Order.the-variants.{Less, Equal, Greater}
+use Rattle.seq.specs.Num.{wrap, add, cmp}
+use Rattle.seq.specs.NumLaws.{wrap-suc}
+use Rattle.packet.specs.declared.Packet.{Packet}
+use Rattle.packet.specs.declared.Place.the-variants.{Again, At}
+use Rattle.packet.specs.Data.{Range, noRange, range, noPacket, packetOf}
+use Rattle.model.specs.Acks.{search}
+use Rattle.model.specs.Reorder.{packetNumber, insertBuffered, move}
+use Rattle.order.specs.Sent.{Arr, pkt, keep, firsts}
+use Rattle.order.proofs.Copies.{none≢some}
+
+packetOf-number : (n x : ℕ) (g : Range) → packetOf n x g .number ≡ n
+packetOf-number n x noRange = refl
+packetOf-number n x (range f l) = refl
+
+-- a packet's number is its place's
+pub pkt-number : (s : ℕ → Range) (a : Arr) → pkt s a .number ≡ wrap (a .place)
+pkt-number s a = packetOf-number (wrap (a .place)) (a .handle) (s (a .place))
+
+-- every packet of a list
+abbrev pub Each : (Packet → Type 0) → List Packet → Type 0
+Each P [] = Unit {0}
+Each P (p ∷ l) = P p × Each P l
+
+each-at : (P : Packet → Type 0) (l : List Packet) (i : ℕ) → i < length l → Each P l → P (getD l i noPacket)
+each-at P [] i h e = absurd (omega arith)
+each-at P (p ∷ l) zero h e = e .0
+each-at P (p ∷ l) (suc i) h e = each-at P l i (omega arith) (e .1)
+
+-- ---- the insertion search
+
+-- entries that the number is Less than are passed over
+skip : (n : ℕ) (xs ys : List Packet) (i : ℕ) → i ≤ length ys → Each (λ p. cmp n (p .number) ≡ Less) ys → search packetNumber noPacket n (xs ++ ys) (length xs + i) ≡ search packetNumber noPacket n (xs ++ ys) (length xs)
+unfolding search
+skip n xs ys zero h e = rw add-zero
+skip n xs ys (suc i) h e = rw (add-suc, getD-append-add xs ys i noPacket, each-at (λ p. cmp n (p .number) ≡ Less) ys i (omega arith) e) (skip n xs ys i (omega arith) e)
+
+skip-all : (n : ℕ) (xs ys : List Packet) → Each (λ p. cmp n (p .number) ≡ Less) ys → search packetNumber noPacket n (xs ++ ys) (length (xs ++ ys)) ≡ search packetNumber noPacket n (xs ++ ys) (length xs)
+skip-all n xs ys e = rw length-append (skip n xs ys (length ys) (omega arith) e)
+
+last-greater : (n : ℕ) (xs ys : List Packet) (i : ℕ) → length xs ≡ i → Each (λ p. cmp n (p .number) ≡ Greater) xs → search packetNumber noPacket n (xs ++ ys) i ≡ At i
+unfolding search
+last-greater n xs ys zero h g = refl
+last-greater n xs ys (suc i) h g = rw (List·getD-append xs ys noPacket i (omega arith), each-at (λ p. cmp n (p .number) ≡ Greater) xs i (omega arith) g)
+
+-- between the entries that it is Greater than and those that it is Less than: there it is inserted
+pub insert-new : (p : Packet) (xs ys : List Packet) → Each (λ b. cmp (p .number) (b .number) ≡ Greater) xs → Each (λ b. cmp (p .number) (b .number) ≡ Less) ys
+    → insertBuffered p (xs ++ ys) ≡ xs ++ (p ∷ ys)
+unfolding insertBuffered
+insert-new p xs ys g l = rw (skip-all (p .number) xs ys l, last-greater (p .number) xs ys (length xs) refl g, take-append-seam xs ys, drop-append-seam xs ys)
+
+at-equal : (n : ℕ) (xs : List Packet) (b : Packet) (ys : List Packet) → cmp n (b .number) ≡ Equal → search packetNumber noPacket n (xs ++ (b ∷ ys)) (suc (length xs)) ≡ Again
+unfolding search
+at-equal n xs b ys e = rw (getD-append-seam xs b ys noPacket, e)
+
+search-again : (n : ℕ) (xs : List Packet) (b : Packet) (ys : List Packet) → cmp n (b .number) ≡ Equal → Each (λ b. cmp n (b .number) ≡ Less) ys → search packetNumber noPacket n (xs ++ (b ∷ ys)) (length (xs ++ (b ∷ ys))) ≡ Again
+search-again n xs b ys e l =
+    let k : length (xs ++ (b ∷ [])) ≡ suc (length xs) = omega (arith, length-append xs (b ∷ [])) in
+    let s : search packetNumber noPacket n (xs ++ (b ∷ []) ++ ys) (length (xs ++ (b ∷ []) ++ ys)) ≡ search packetNumber noPacket n (xs ++ (b ∷ []) ++ ys) (length (xs ++ (b ∷ []))) = skip-all n (xs ++ (b ∷ [])) ys l in
+    (rw (k, append-snoc xs b ys) at s) ∙ at-equal n xs b ys e
+
+-- beside an entry that it is Equal to: dropped
+pub insert-again : (p b : Packet) (xs ys : List Packet) → cmp (p .number) (b .number) ≡ Equal → Each (λ b. cmp (p .number) (b .number) ≡ Less) ys
+    → insertBuffered p (xs ++ (b ∷ ys)) ≡ xs ++ (b ∷ ys)
+unfolding insertBuffered
+insert-again p b xs ys e l = rw (search-again (p .number) xs b ys e l)
+
+-- ---- first copies
+
+-- the same first copies at these places
+pub firsts-cong : (f g : ℕ → Option ℕ) (p n : ℕ) → ((q : ℕ) → p ≤ q → q < p + n → f q ≡ g q) → firsts f p n ≡ firsts g p n
+unfolding firsts
+firsts-cong f g p zero e = refl
+firsts-cong f g p (suc n) e = rw (e p (omega arith) (omega arith), firsts-cong f g (suc p) n (λ q l u. e q (omega arith) (omega arith)))
+
+-- at n places, and then at k more from q on
+pub firsts-split : (f : ℕ → Option ℕ) (p n q k t : ℕ) → p + n ≡ q → n + k ≡ t → firsts f p t ≡ firsts f p n ++ firsts f q k
+unfolding firsts
+firsts-split f p zero q k t e u =
+    let a : p ≡ q = omega arith in
+    let b : k ≡ t = omega arith in
+    rw (a, b)
+firsts-split f p (suc n) q k zero e u = absurd (omega arith)
+firsts-split f p (suc n) q k (suc t) e u = rw (firsts-split f (suc p) n q k t (omega arith) (omega arith)) (at (f p))
+  where
+    at : (o : Option ℕ) → keep p o (firsts f (suc p) n ++ firsts f q k) ≡ keep p o (firsts f (suc p) n) ++ firsts f q k
+    at none = refl
+    at (some x) = refl
+
+pub firsts-none : (f : ℕ → Option ℕ) (p n : ℕ) → f p ≡ none → firsts f p (suc n) ≡ firsts f (suc p) n
+unfolding firsts
+firsts-none f p n e = rw e
+
+pub firsts-some : (f : ℕ → Option ℕ) (p n : ℕ) {x : ℕ} → f p ≡ some x → firsts f p (suc n) ≡ record { place = p; handle = x } ∷ firsts f (suc p) n
+unfolding firsts
+firsts-some f p n e = rw e
+
+-- what holds of each first copy at these places
+pub firsts-each : (s : ℕ → Range) (P : Packet → Type 0) (f : ℕ → Option ℕ) (p n : ℕ) → ((a : Arr) → p ≤ a .place → a .place < p + n → f (a .place) ≡ some (a .handle) → P (pkt s a)) → Each P (map (pkt s) (firsts f p n))
+unfolding firsts
+firsts-each s P f p zero h = tt
+firsts-each s P f p (suc n) h = at (f p) refl (firsts-each s P f (suc p) n (λ a l u e. h a (omega arith) (omega arith) e))
+  where
+    at : (o : Option ℕ) → f p ≡ o → Each P (map (pkt s) (firsts f (suc p) n)) → Each P (map (pkt s) (keep p o (firsts f (suc p) n)))
+    at none e i = i
+    at (some x) e i = (h (record { place = p; handle = x }) (omega arith) (omega arith) e, i)
+
+-- ---- moving successors
+
+move-stop : (e : ℕ) (b q : List Packet) (bs : List (List ℕ)) → Each (λ p. p .number ≡ e → ⊥) b → move e b q bs ≡ record { expected = e; buffer = b; queue = q; bundles = bs }
+unfolding move
+move-stop e [] q bs h = refl
+move-stop e (p ∷ b) q bs h = rw (ne-eqb (p .number) e (h .0))
+
+pub move-one : (e : ℕ) (p : Packet) (b q : List Packet) (bs : List (List ℕ)) → p .number ≡ e → move e (p ∷ b) q bs ≡ move (add e 1) b (q ++ (p ∷ [])) bs
+unfolding move
+move-one e p b q bs h = rw (eq-eqb (p .number) e h)
+
+-- from place k on: the places up to the next missing one are moved, and what follows stays
+pub record Moved (s : ℕ → Range) (f : ℕ → Option ℕ) (k n : ℕ) (q : List Packet) (bs : List (List ℕ)) : Type 0 where
+  pub next : ℕ
+  pub done : ℕ
+  pub left : ℕ
+  pub reach : k + done ≡ next
+  pub sum : done + left ≡ n
+  pub full : (r : ℕ) → k ≤ r → r < next → f r ≡ none → ⊥
+  pub open′ : f next ≡ none
+  pub result : move (wrap k) (map (pkt s) (firsts f k n)) q bs
+      ≡ record { expected = wrap next; buffer = map (pkt s) (firsts f next left); queue = q ++ map (pkt s) (firsts f k done); bundles = bs }
+
+stays : (s : ℕ → Range) (f : ℕ → Option ℕ) (k n : ℕ) (q : List Packet) (bs : List (List ℕ)) → f k ≡ none → ((r : ℕ) → (f r ≡ none → ⊥) → r < k + 0x800_0000) → Moved s f k n q bs
+unfolding firsts
+stays s f k n q bs e w =
+    let away : Each (λ p. p .number ≡ wrap k → ⊥) (map (pkt s) (firsts f k n)) = firsts-each s (λ p. p .number ≡ wrap k → ⊥) f k n away-one in
+    record { next = k; done = 0; left = n; reach = omega arith; sum = omega arith; full = λ r l u. absurd (omega arith); open′ = e; result = rw append-nil (move-stop (wrap k) (map (pkt s) (firsts f k n)) q bs away) }
+  where
+    away-one : (a : Arr) → k ≤ a .place → a .place < k + n → f (a .place) ≡ some (a .handle) → pkt s a .number ≡ wrap k → ⊥
+    away-one a l u z o =
+        let d : k ≡ a .place → ⊥ = λ v. none≢some (sym e ∙ ap f v ∙ z) in
+        let c : wrap (a .place) ≡ wrap k = sym (pkt-number s a) ∙ o in
+        omega (arith, w (a .place) (λ y. none≢some (sym y ∙ z)), d)
+
+pub moves : (s : ℕ → Range) (f : ℕ → Option ℕ) (k n : ℕ) (q : List Packet) (bs : List (List ℕ)) → f (k + n) ≡ none → ((r : ℕ) → (f r ≡ none → ⊥) → r < k + 0x800_0000) → Moved s f k n q bs
+moves s f k zero q bs t w = let z : k + 0 ≡ k = omega arith in stays s f k 0 q bs (rw z at t) w
+moves s f k (suc n) q bs t w = at (f k) refl (λ q. moves s f (suc k) n q bs (let z : suc k + n ≡ k + suc n = omega arith in rw z t) (λ r y. let v : r < k + 0x800_0000 = w r y in omega arith))
+  where
+    at : (o : Option ℕ) → f k ≡ o → ((q : List Packet) → Moved s f (suc k) n q bs) → Moved s f k (suc n) q bs
+    at none e ih = stays s f k (suc n) q bs e w
+    at (some x) e ih =
+        let p : Packet = pkt s (record { place = k; handle = x }) in
+        let i : Moved s f (suc k) n (q ++ (p ∷ [])) bs = ih (q ++ (p ∷ [])) in
+        record {
+          next = i .next;
+          done = suc (i .done);
+          left = i .left;
+          reach = omega (arith, i .reach);
+          sum = omega (arith, i .sum);
+          full = λ r l u. up r (decLt k r) l u (i .full r);
+          open′ = i .open′;
+          result = rw (firsts-some f k n e, move-one (wrap k) p (map (pkt s) (firsts f (suc k) n)) q bs (pkt-number s (record { place = k; handle = x })), wrap-suc k, i .result, firsts-some f k (i .done) e, append-assoc);
+        }
+      where
+        up : (r : ℕ) → Dec (k < r) → k ≤ r → {n : ℕ} → r < n → (suc k ≤ r → r < n → f r ≡ none → ⊥) → f r ≡ none → ⊥
+        up r (yes v) l u y z = y v u z
+        up r (no v) l u y z = let d : k ≡ r = omega arith in none≢some (sym z ∙ ap f (sym d) ∙ e)
