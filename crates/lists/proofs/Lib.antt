@@ -3,3 +3,4 @@ pub mod Find
 pub mod Slot
 pub mod FindAs
 pub mod Kept
+pub mod Outl

@@ -1,0 +1,4 @@
+pub mod Form
+pub mod One
+pub mod Forwarded
+pub mod Test

@@ -1,0 +1,5 @@
+pub mod ProvedTable
+pub mod Channels
+pub mod Rejections
+pub mod Agreement
+pub mod Effects

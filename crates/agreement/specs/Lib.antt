@@ -1,0 +1,3 @@
+pub mod ProvedTable
+pub mod Demand2
+pub mod Effects

@@ -1,0 +1,8 @@
+// Theorems over the model alone stand in proofs/; this crate has no code of its own.
+ghost use mathlib.Core.Path.{_≡_};
+
+pub fn zero() -> u32
+    ensures { λ r. ⌜ r ≡ 0 ⌝ }
+{
+    0
+}

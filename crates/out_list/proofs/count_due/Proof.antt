@@ -1,0 +1,60 @@
+-- The count is of the first i. Assumes nothing.
+use mathlib.Core.Logic.{⊎-elim}
+use Prim.Native.Nat.{_-_}
+use Rattle.model.specs.Rust.{due}
+use Rattle.out_list.proofs.Resends.{Counting, count-one, count-none, counting}
+use Rattle.out_list.proofs.count_due.Statement.{statement}
+use Rattle.out_list.proofs.count_due.Tie as tie
+
+abbrev Inv-loop : tie.InvT-loop
+Inv-loop time timeout o n count₀ i₀ count i = Counting o (due time timeout) count i
+
+abbrev μ-loop : tie.MeasureT-loop
+μ-loop time timeout o n count₀ i₀ count i = n - i
+
+cast-n : tie.Need-cast-n Inv-loop μ-loop
+cast-n c = search counting
+
+loop-holds : tie.Need-loop-holds Inv-loop μ-loop
+loop-holds c = search counting
+
+mul-e : tie.Need-mul-e Inv-loop μ-loop
+mul-e c = search counting
+
+element-copy-out-e : tie.Need-element-copy-out-e Inv-loop μ-loop
+element-copy-out-e c = search counting
+
+due-requires : tie.Need-due-requires Inv-loop μ-loop
+due-requires c κs = search counting
+
+add-count : tie.Need-add-count Inv-loop μ-loop
+add-count c = search counting
+
+add-i : tie.Need-add-i Inv-loop μ-loop
+add-i c = search counting
+
+loop-less : tie.Need-loop-less Inv-loop μ-loop
+loop-less c = search counting
+
+loop-again : tie.Need-loop-again Inv-loop μ-loop
+loop-again c = ⊎-elim (λ w. search count-one) (λ w. search count-none) (c .if1 .came)
+
+returns : tie.Need-returns Inv-loop μ-loop
+returns c = search counting
+
+pub count-due-spec : {M : Type 1} → statement M
+count-due-spec =
+    tie.close
+    (tie.spec
+    Inv-loop
+    μ-loop
+    cast-n
+    loop-holds
+    mul-e
+    element-copy-out-e
+    due-requires
+    add-count
+    add-i
+    loop-less
+    loop-again
+    returns)
