@@ -4,3 +4,5 @@ pub mod Slot
 pub mod FindAs
 pub mod Kept
 pub mod Outl
+pub mod Onch
+pub mod Frag

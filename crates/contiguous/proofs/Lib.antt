@@ -1,0 +1,3 @@
+pub mod Form
+pub mod Grouping
+pub mod Steps

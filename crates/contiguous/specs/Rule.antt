@@ -1,0 +1,60 @@
+-- The reorder rule on lists in arrays, and what one look at the front of the contiguous queue answers.
+use mathlib.Core.Path.{_≡_}
+use mathlib.Core.Bool.{cond}
+use mathlib.Core.List.{List, [], _∷_}
+use Prim.Native.Nat.{ℕ, suc, _≤_}
+use lib.Dec.{leb, eqb}
+use lib.ListN.{length, take, drop}
+use Rattle.seq.specs.Num.{add}
+use Rattle.packet.specs.declared.Packet.{Packet}
+use Rattle.model.specs.Group.{Step, stop, go, step, handles}
+use Rattle.model.specs.Reorder.{Reliable, insertBuffered, reorder}
+use Rattle.waiting.specs.declared.Waiting.{Waiting}
+use Rattle.waiting.specs.Waiting as Waits
+use Rattle.contiguous.specs.declared.Inserted.{Inserted}
+use Rattle.contiguous.specs.declared.Placed.{Placed}
+use Rattle.contiguous.specs.declared.Pop.{Pop}
+use Rattle.contiguous.specs.declared.Pop.the-variants.{Stop, Skip, Take}
+use Rattle.contiguous.specs.Work.{repr}
+
+-- how many packets follow one another from number e on
+unfoldable pub run : ℕ → List Packet → ℕ
+run e [] = 0
+run e (p ∷ b) = cond (eqb (p .number) e) (suc (run (add e 1) b)) 0
+
+-- "Room is judged on the state the rule would end in": a buffer of 33 does not fit
+unfoldable pub inserted : Waiting → Packet → Inserted
+inserted b p =
+    cond (leb (length (insertBuffered p (Waits.abs b))) 32) (record { fits = 1; buffer = Waits.repr (insertBuffered p (Waits.abs b)) })
+    (record { fits = 0; buffer = b })
+
+-- what the rule starts from; it does not look at the bundles
+abbrev pub starts : ℕ → Waiting → Waiting → Reliable
+starts e b q = record { expected = e; buffer = Waits.abs b; queue = Waits.abs q; bundles = [] }
+
+abbrev pub ends : Reliable → Placed
+ends m = record { fits = 1; expected = m .expected; buffer = Waits.repr (m .buffer); work = repr (m .queue) }
+
+abbrev pub full : ℕ → Waiting → Waiting → Placed
+full e b q = record { fits = 0; expected = e; buffer = b; work = repr (Waits.abs q) }
+
+-- the reorder rule, where the buffer that it ends in fits
+unfoldable pub placed : ℕ → Waiting → Waiting → Packet → Placed
+placed e b q p = cond (leb (length (reorder (starts e b q) p .buffer)) 32) (ends (reorder (starts e b q) p)) (full e b q)
+
+-- what an answer at the front of q says, as the model's step: stop, drop n, or make a bundle of n
+abbrev pub told : Pop → List Packet → Step
+told Stop q = stop
+told (Skip n) q = go [] (drop n q)
+told (Take n) q = go (handles (take n q) ∷ []) (drop n q)
+
+-- how many packets it takes
+abbrev pub taken : Pop → ℕ
+taken Stop = 0
+taken (Skip n) = n
+taken (Take n) = n
+
+-- the answer is the model's step, and takes no more than there are
+pub record Popped (q : List Packet) (r : Pop) : Type 0 where
+  pub says : told r q ≡ step q
+  pub most : taken r ≤ length q

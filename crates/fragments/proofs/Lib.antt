@@ -1,0 +1,4 @@
+pub mod One
+pub mod Many
+pub mod Rule
+pub mod Test

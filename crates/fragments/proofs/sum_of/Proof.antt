@@ -1,0 +1,54 @@
+use Prim.Native.Nat.{_-_}
+use borrow.Author.Needs.{needs}
+use Rattle.bundles.proofs.Model.{Summing, sum-start, sum-fits, sum-step, sum-done}
+use Rattle.fragments.proofs.sum_of.Statement.{statement}
+use Rattle.fragments.proofs.sum_of.Tie as tie
+
+abbrev Inv-loop : tie.InvT-loop
+Inv-loop ms s₀ i₀ s i = Summing 32 ms s i
+
+abbrev μ-loop : tie.MeasureT-loop
+μ-loop ms s₀ i₀ s i = 32 - i
+
+loop-holds : tie.Need-loop-holds Inv-loop μ-loop
+loop-holds c = search (sum-start, needs)
+
+mul-s : tie.Need-mul-s Inv-loop μ-loop
+mul-s c = search needs
+
+array-read-s : tie.Need-array-read-s Inv-loop μ-loop
+array-read-s c = search needs
+
+cast-s : tie.Need-cast-s Inv-loop μ-loop
+cast-s c = search needs
+
+add-s : tie.Need-add-s Inv-loop μ-loop
+add-s c = search (sum-fits, needs)
+
+add-i : tie.Need-add-i Inv-loop μ-loop
+add-i c = search needs
+
+loop-less : tie.Need-loop-less Inv-loop μ-loop
+loop-less c = search needs
+
+loop-again : tie.Need-loop-again Inv-loop μ-loop
+loop-again c = search (sum-step, needs)
+
+returns : tie.Need-returns Inv-loop μ-loop
+returns c = search sum-done
+
+pub sum-of-spec : {M : Type 1} → statement M
+sum-of-spec =
+    tie.close
+    (tie.spec
+    Inv-loop
+    μ-loop
+    loop-holds
+    mul-s
+    array-read-s
+    cast-s
+    add-s
+    add-i
+    loop-less
+    loop-again
+    returns)
