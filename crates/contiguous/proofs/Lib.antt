@@ -1,3 +1,2 @@
 pub mod Form
-pub mod Grouping
 pub mod Steps

@@ -26,6 +26,7 @@ use Rattle.model.specs.Acks.{search, insertedAt}
 use Rattle.model.specs.Group.{group}
 use Rattle.model.specs.Reorder.{Reliable, packetNumber, insertBuffered, move, place, reorder, regroup}
 use Rattle.model.specs.Wellformed.{rangeGood, packetGood, rising, consecutive}
+use Rattle.model.proofs.Search.{Each, insert-new, insert-again}
 use Rattle.kept.proofs.Grouping.{Ends, group-ends}
 
 -- ---- numbers
@@ -76,55 +77,6 @@ equal-same a b h = at (eqb a b) refl (ltb 0x800_0000 (dist a b)) h
     at true q u z = eqb-true a b q
     at false q true z = absurd (let y : _≡_ {A = ℕ} 0 1 = cc in omega arith)
     at false q false z = absurd (let y : _≡_ {A = ℕ} 0 1 = cc in omega arith)
-
--- ---- the insertion search
-
--- every packet of a list
-abbrev Each : (Packet → Type 0) → List Packet → Type 0
-Each P [] = Unit {0}
-Each P (p ∷ l) = P p × Each P l
-
-each-at : (P : Packet → Type 0) (l : List Packet) (i : ℕ) → i < length l → Each P l → P (getD l i noPacket)
-each-at P [] i h e = absurd (omega arith)
-each-at P (p ∷ l) zero h e = e .0
-each-at P (p ∷ l) (suc i) h e = each-at P l i (omega arith) (e .1)
-
-abbrev seek : ℕ → List Packet → ℕ → Place
-seek n l i = search packetNumber noPacket n l i
-
--- packets that the number is Less than are passed over
-skip : (n : ℕ) (xs ys : List Packet) (i : ℕ) → i ≤ length ys → Each (λ p. cmp n (p .number) ≡ Less) ys → seek n (xs ++ ys) (length xs + i) ≡ seek n (xs ++ ys) (length xs)
-unfolding search
-skip n xs ys zero h e = rw add-zero
-skip n xs ys (suc i) h e = rw (add-suc, getD-append-add xs ys i noPacket, each-at (λ p. cmp n (p .number) ≡ Less) ys i (omega arith) e) (skip n xs ys i (omega arith) e)
-
-skip-all : (n : ℕ) (xs ys : List Packet) → Each (λ p. cmp n (p .number) ≡ Less) ys → seek n (xs ++ ys) (length (xs ++ ys)) ≡ seek n (xs ++ ys) (length xs)
-skip-all n xs ys e = rw length-append (skip n xs ys (length ys) (omega arith) e)
-
-last-greater : (n : ℕ) (xs ys : List Packet) (i : ℕ) → length xs ≡ i → Each (λ p. cmp n (p .number) ≡ Greater) xs → seek n (xs ++ ys) i ≡ At i
-unfolding search
-last-greater n xs ys zero h g = refl
-last-greater n xs ys (suc i) h g = rw (List·getD-append xs ys noPacket i (omega arith), each-at (λ p. cmp n (p .number) ≡ Greater) xs i (omega arith) g)
-
--- between the packets that it is Greater than and those that it is Less than: there it is inserted
-insert-new : (p : Packet) (xs ys : List Packet) → Each (λ b. cmp (p .number) (b .number) ≡ Greater) xs → Each (λ b. cmp (p .number) (b .number) ≡ Less) ys → insertBuffered p (xs ++ ys) ≡ xs ++ (p ∷ ys)
-unfolding insertBuffered
-insert-new p xs ys g l = rw (skip-all (p .number) xs ys l, last-greater (p .number) xs ys (length xs) refl g, take-append-seam xs ys, drop-append-seam xs ys)
-
-at-equal : (n : ℕ) (xs : List Packet) (b : Packet) (ys : List Packet) → cmp n (b .number) ≡ Equal → seek n (xs ++ (b ∷ ys)) (suc (length xs)) ≡ Again
-unfolding search
-at-equal n xs b ys e = rw (getD-append-seam xs b ys noPacket, e)
-
-seek-again : (n : ℕ) (xs : List Packet) (b : Packet) (ys : List Packet) → cmp n (b .number) ≡ Equal → Each (λ b. cmp n (b .number) ≡ Less) ys → seek n (xs ++ (b ∷ ys)) (length (xs ++ (b ∷ ys))) ≡ Again
-seek-again n xs b ys e l =
-    let k : length (xs ++ (b ∷ [])) ≡ suc (length xs) = omega (arith, length-append xs (b ∷ [])) in
-    let s : seek n (xs ++ (b ∷ []) ++ ys) (length (xs ++ (b ∷ []) ++ ys)) ≡ seek n (xs ++ (b ∷ []) ++ ys) (length (xs ++ (b ∷ []))) = skip-all n (xs ++ (b ∷ [])) ys l in
-    (rw (k, append-snoc xs b ys) at s) ∙ at-equal n xs b ys e
-
--- beside one that it is Equal to: dropped
-insert-again : (p b : Packet) (xs ys : List Packet) → cmp (p .number) (b .number) ≡ Equal → Each (λ b. cmp (p .number) (b .number) ≡ Less) ys → insertBuffered p (xs ++ (b ∷ ys)) ≡ xs ++ (b ∷ ys)
-unfolding insertBuffered
-insert-again p b xs ys e l = rw (seek-again (p .number) xs b ys e l)
 
 -- ---- the buffer
 
@@ -247,7 +199,7 @@ allb-inserted f (At k) p b h g = allb-append f (take k b) (p ∷ drop k b) (allb
 
 good-insert : (p : Packet) (b : List Packet) → packetGood p ≡ true → allb packetGood b ≡ true → allb packetGood (insertBuffered p b) ≡ true
 unfolding insertBuffered
-good-insert p b h g = allb-inserted packetGood (seek (p .number) b (length b)) p b h g
+good-insert p b h g = allb-inserted packetGood (search packetNumber noPacket (p .number) b (length b)) p b h g
 
 -- the reorder rule keeps it
 pub side-reorder : (c : Reliable) (p : Packet) → packetGood p ≡ true → length (c .buffer) + length (c .queue) < 0xFFFF_FFFE → Side c → Side (reorder c p)

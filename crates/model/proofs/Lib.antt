@@ -1,2 +1,4 @@
 pub mod Script
 pub mod Instances
+pub mod Grouping
+pub mod Search

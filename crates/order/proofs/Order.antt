@@ -15,7 +15,8 @@ use Rattle.model.specs.Reorder.{Reliable, fresh, insertBuffered, move, place, r
 use Rattle.order.specs.Sent.{Arr, pkt, received, copy, above, missing, Near, firsts, sentBefore}
 use Rattle.order.proofs.Stable.{stable}
 use Rattle.order.proofs.Copies.{none≢some, copy-old, copy-new, copy-other, Gap, gap-unique, missing-gap}
-use Rattle.order.proofs.Buffer.{pkt-number, Each, insert-new, insert-again, firsts-cong, firsts-split, firsts-none, firsts-some, firsts-each, Moved, moves, move-one}
+use Rattle.model.proofs.Search.{Each, insert-new, insert-again}
+use Rattle.order.proofs.Buffer.{pkt-number, firsts-cong, firsts-split, firsts-none, firsts-some, firsts-each, Moved, moves, move-one}
 
 -- ---- one arrival, by the answer of the comparison
 

@@ -12,38 +12,12 @@ use borrow.Author.Tests.{ltb-false, le-ltb}
 use Rattle.seq.specs.Num.{dist}
 use Rattle.packet.specs.declared.Packet.{Packet}
 use Rattle.packet.specs.Data.{Range, noRange, range, rangeOf}
-use Rattle.model.specs.Group.{Step, stop, go, enough, first, front, step, before, onStep, groupN, group}
-
-pub stop≢go : {A : Type 0} {bs : List (List ℕ)} {r : List Packet} → stop ≡ go bs r → A
-stop≢go e = let z : _≡_ {A = ℕ} 0 1 = cc in absurd (omega arith)
-
--- a step takes at least one packet
-enough-less : (c : Bool) (f l n : ℕ) (p : Packet) (q : List Packet) {bs : List (List ℕ)} {r : List Packet} → enough c f l (suc n) (p ∷ q) ≡ go bs r → length r ≤ length q
-enough-less true f l n p q e = stop≢go e
-enough-less false f l n p q {bs} {r} e =
-    let d : drop n q ≡ r = cc in
-    omega (arith, length-drop n q, ap length d)
-
-first-less : (c : Bool) (f l : ℕ) (p : Packet) (q : List Packet) {bs : List (List ℕ)} {r : List Packet} → first c f l p q ≡ go bs r → length r ≤ length q
-first-less true f l p q e = enough-less (ltb (length (p ∷ q)) (suc (dist l f))) f l (dist l f) p q e
-first-less false f l p q {bs} {r} e =
-    let d : q ≡ r = cc in
-    omega (arith, ap length d)
-
-front-less : (g : Range) (p : Packet) (q : List Packet) {bs : List (List ℕ)} {r : List Packet} → front g p q ≡ go bs r → length r ≤ length q
-front-less noRange p q {bs} {r} e =
-    let d : q ≡ r = cc in
-    omega (arith, ap length d)
-front-less (range f l) p q e = first-less (eqb (p .number) f) f l p q e
-
-pub step-less : (q : List Packet) {bs : List (List ℕ)} {r : List Packet} → step q ≡ go bs r → length r < length q
-unfolding step
-step-less [] e = stop≢go e
-step-less (p ∷ q) {bs} {r} e = omega (arith, front-less (rangeOf p) p q e)
+use Rattle.model.specs.Group.{Step, stop, go, enough, first, front, step, before, group}
+use Rattle.model.proofs.Grouping.{stops, step-less, group-stop, group-go}
 
 -- a step that goes on does the same with more packets behind
 enough-more : (c : Bool) (f l n : ℕ) (q ys : List Packet) {bs : List (List ℕ)} {r : List Packet} → ltb (length q) n ≡ c → enough c f l n q ≡ go bs r → enough (ltb (length (q ++ ys)) n) f l n (q ++ ys) ≡ go bs (r ++ ys)
-enough-more true f l n q ys h e = stop≢go e
+enough-more true f l n q ys h e = stops e
 enough-more false f l n q ys {bs} {r} h e =
     let le : n ≤ length q = ltb-false _ _ h in
     let le′ : n ≤ length (q ++ ys) = omega (arith, length-append q ys) in
@@ -59,34 +33,8 @@ front-more (range f l) p q ys e = first-more (eqb (p .number) f) f l p q ys e
 
 pub step-more : (q ys : List Packet) {bs : List (List ℕ)} {r : List Packet} → step q ≡ go bs r → step (q ++ ys) ≡ go bs (r ++ ys)
 unfolding step
-step-more [] ys e = stop≢go e
+step-more [] ys e = stops e
 step-more (p ∷ q) ys e = front-more (rangeOf p) p q ys e
-
--- any fuel from the length on gives the same
-same-fuel : (n m : ℕ) (q : List Packet) → length q ≤ n → length q ≤ m → groupN n q ≡ groupN m q
-unfolding groupN step
-same-fuel zero zero q h k = refl
-same-fuel zero (suc m) [] h k = refl
-same-fuel zero (suc m) (p ∷ q) h k = absurd (omega arith)
-same-fuel (suc n) zero [] h k = refl
-same-fuel (suc n) zero (p ∷ q) h k = absurd (omega arith)
-same-fuel (suc n) (suc m) q h k = at (step q) refl (λ r. same-fuel n m r)
-  where
-    at : (s : Step) → step q ≡ s → ((r : List Packet) → length r ≤ n → length r ≤ m → groupN n r ≡ groupN m r) → onStep (λ r. groupN n r) q (step q) ≡ onStep (λ r. groupN m r) q (step q)
-    at stop e ih = rw e
-    at (go bs r) e ih = rw e (ap (before bs) (ih r (omega (arith, step-less q e)) (omega (arith, step-less q e))))
-
-pub group-stop : (q : List Packet) → step q ≡ stop → group q ≡ record { made = []; rest = q }
-unfolding group groupN
-group-stop [] e = refl
-group-stop (p ∷ q) e = rw e
-
-pub group-go : (q : List Packet) {bs : List (List ℕ)} {r : List Packet} → step q ≡ go bs r → group q ≡ before bs (group r)
-unfolding group groupN step
-group-go [] e = stop≢go e
-group-go (p ∷ q) {bs} {r} e =
-    let h : length r ≤ length q = omega (arith, step-less (p ∷ q) e) in
-    rw e (ap (before bs) (same-fuel (length q) (length r) r h (omega arith)))
 
 empty : step [] ≡ stop
 unfolding step

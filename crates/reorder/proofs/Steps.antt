@@ -34,7 +34,7 @@ use Rattle.contiguous.specs.declared.Pop.the-variants.{Stop, Skip, Take}
 use Rattle.contiguous.specs.Work.{abs, repr, Wf}
 use Rattle.contiguous.specs.Rule.{run, starts, ends, full, placed, told, taken, Popped}
 use Rattle.contiguous.proofs.Form.{wf-len, wf-len-le, abs-repr, wf-repr, moved, move-run}
-use Rattle.contiguous.proofs.Grouping.{step-less, group-stop, group-go}
+use Rattle.model.proofs.Grouping.{step-less, group-stop, group-go}
 use Rattle.reorder.specs.declared.Grouping.{Grouping}
 use Rattle.reorder.specs.declared.Reordered.{Reordered}
 use Rattle.reorder.specs.Reorder.{roomy, grouped, finished, within, stateOf, changed, unchanged, received, Alone}

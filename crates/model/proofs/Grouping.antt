@@ -1,4 +1,4 @@
--- The grouping goes on by the model's steps: from here on nothing counts them. Assumes nothing.
+-- The grouping goes on by its steps: from here on nothing counts them. Assumes nothing.
 use mathlib.Core.Path.{_≡_, refl, ap}
 use mathlib.Core.Bool.{Bool, true, false}
 use mathlib.Core.List.{List, [], _∷_}
@@ -9,9 +9,9 @@ use lib.ListN.{length, drop, length-drop}
 use Rattle.seq.specs.Num.{dist}
 use Rattle.packet.specs.declared.Packet.{Packet}
 use Rattle.packet.specs.Data.{Range, noRange, range, rangeOf}
 use Rattle.model.specs.Group.{Step, stop, go, enough, first, front, step, before, onStep, groupN, group, span}
 
-stops : {A : Type 0} {bs : List (List ℕ)} {r : List Packet} → stop ≡ go bs r → A
+pub stops : {A : Type 0} {bs : List (List ℕ)} {r : List Packet} → stop ≡ go bs r → A
 stops e = let z : _≡_ {A = ℕ} 0 1 = cc in absurd (omega arith)
 
 -- a step takes at least one packet
