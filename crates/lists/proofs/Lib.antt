@@ -6,3 +6,5 @@ pub mod Kept
 pub mod Outl
 pub mod Onch
 pub mod Frag
+pub mod Tabl
+pub mod Hand

@@ -1,0 +1,8 @@
+// Document 01 as definitions stands in specs/; this crate has no code of its own.
+ghost use mathlib.Core.Path.{_≡_};
+
+pub fn zero() -> u32
+    ensures { λ r. ⌜ r ≡ 0 ⌝ }
+{
+    0
+}

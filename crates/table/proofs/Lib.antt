@@ -1,0 +1,5 @@
+pub mod Laws
+pub mod Slots
+pub mod Steps
+pub mod Test
+pub mod Places

@@ -1,0 +1,256 @@
+// The table that the host lends: channels by key in order of creation, and the shared numbers. Integers only; unused places are zero.
+use channel::OffChannel;
+use channel::OnChannel;
+ghost use mathlib.Core.Path.{_≡_};
+ghost use mathlib.Core.Bool.{cond, _&&_};
+ghost use mathlib.Core.List.{map};
+ghost use Prim.Native.Nat.{_≤_};
+ghost use lib.Dec.{leb};
+ghost use lib.ListN.{take};
+ghost use Rattle.lists.specs.Find.{slotOf};
+ghost use Rattle.seq.specs.Num as Num;
+ghost use Rattle.packet.specs.Data.{isFlag};
+ghost use Rattle.model.specs.State as model;
+ghost use Rattle.model.specs.Wellformed.{distinct};
+ghost use Rattle.channel.specs.Channel.{goodOff, goodOn};
+ghost use Rattle.table.specs.Keys.{isKey, isAddress, sameKey, offKey, onKey, keysOf};
+ghost use Rattle.table.specs.Table.{repr, spareOff, spareOn, offsGood, onsGood, wfb};
+
+// Rust: Protocol and ProtocolShared, with the latest time.
+#[repr(C)]
+pub struct Table {
+    pub latest: u64,
+    pub forwarding: u32,
+    pub prefix: u32,
+    pub offset: u32,
+    pub source: u32,
+    pub offcount: u32,
+    pub oncount: u32,
+    pub offs: [OffChannel; 4],
+    pub ons: [OnChannel; 8],
+}
+
+// An on-channel's key.
+pub struct OnKey {
+    pub address: u32,
+    pub index: u32,
+}
+
+// The keys of a table's channels, apart from their lists, so that a call looks for a channel without moving one.
+pub struct Keys {
+    pub offs: [u32; 4],
+    pub ons: [OnKey; 8],
+}
+
+fn flag(b: bool) -> u32
+    ensures { λ r. ⌜ r ≡ cond b 1 0 ⌝ }
+{
+    if b {
+        return 1;
+    }
+    0
+}
+
+impl Table {
+    // "its shared off-channel source starts at 1"
+    pub fn new(forwarding: bool) -> Table
+        ensures { λ r. ⌜ r ≡ repr (model.new forwarding) ⌝ }
+    {
+        let f = flag(forwarding);
+        let off = OffChannel::new(0);
+        let on = OnChannel::new(0, 0, 0);
+        Table {
+            latest: 0,
+            forwarding: f,
+            prefix: 0,
+            offset: 0,
+            source: 1,
+            offcount: 0,
+            oncount: 0,
+            offs: [off; 4],
+            ons: [on; 8],
+        }
+    }
+}
+
+// ---- keys
+
+fn off_keys(l: [OffChannel; 4]) -> [u32; 4]
+    ensures { λ r. ⌜ r ≡ map offKey l ⌝ }
+{
+    let mut r = [0; 4];
+    let mut i: usize = 0;
+    while i < 4 {
+        let a = l[i].address;
+        r[i] = a;
+        i += 1;
+    }
+    r
+}
+
+fn on_keys(l: [OnChannel; 8]) -> [OnKey; 8]
+    ensures { λ r. ⌜ r ≡ map onKey l ⌝ }
+{
+    let none = OnKey {
+        address: 0,
+        index: 0,
+    };
+    let mut r = [none; 8];
+    let mut i: usize = 0;
+    while i < 8 {
+        let a = l[i].address;
+        let x = l[i].index;
+        r[i] = OnKey {
+            address: a,
+            index: x,
+        };
+        i += 1;
+    }
+    r
+}
+
+pub fn keys_of(t: Table) -> Keys
+    ensures { λ r. ⌜ r ≡ keysOf t ⌝ }
+{
+    let a = t.offs;
+    let b = t.ons;
+    let k = off_keys(a);
+    let l = on_keys(b);
+    Keys { offs: k, ons: l }
+}
+
+// Where the off-channel of that address stands among the first `n`, or `n`.
+pub fn off_slot(keys: [u32; 4], n: usize, address: u32) -> usize
+    requires { ⌜ n ≤ 4 ⌝ }
+    ensures { λ r. ⌜ r ≡ slotOf (isAddress address) (take n keys) ⌝ }
+{
+    let mut i = 0;
+    while i < n {
+        if keys[i] == address {
+            return i;
+        }
+        i += 1;
+    }
+    i
+}
+
+// Where the on-channel of that address and index stands among the first `n`, or `n`.
+pub fn on_slot(keys: [OnKey; 8], n: usize, address: u32, index: u32) -> usize
+    requires { ⌜ n ≤ 8 ⌝ }
+    ensures { λ r. ⌜ r ≡ slotOf (isKey address index) (take n keys) ⌝ }
+{
+    let mut i = 0;
+    while i < n {
+        let k = keys[i];
+        if (k.address == address) & (k.index == index) {
+            return i;
+        }
+        i += 1;
+    }
+    i
+}
+
+// ---- "A table is well formed if ..": the test, for any table
+
+// Whether flag, shared number and counts are in range.
+fn numbers_good(forwarding: u32, source: u32, offcount: u32, oncount: u32) -> bool
+    ensures { λ r. ⌜ r ≡ isFlag forwarding && Num.legal source && leb offcount 4 && leb oncount 8 ⌝ }
+{
+    (forwarding <= 1) & seq::legal(source) & (offcount <= 4) & (oncount <= 8)
+}
+
+// A channel in use, or an unused one.
+fn off_place_good(c: OffChannel, used: bool, latest: u64) -> bool
+    ensures { λ r. ⌜ r ≡ cond used (goodOff latest c) (spareOff latest c) ⌝ }
+{
+    let idle = channel::off_idle(c);
+    let good = channel::off_well_formed(c, latest);
+    good & (used | idle)
+}
+
+fn on_place_good(c: OnChannel, used: bool, latest: u64) -> bool
+    ensures { λ r. ⌜ r ≡ cond used (goodOn latest c) (spareOn latest c) ⌝ }
+{
+    let idle = channel::on_idle(c);
+    let good = channel::on_well_formed(c, latest);
+    good & (used | idle)
+}
+
+// Each channel in its place. Fixed turns and no way out, so that no channel's array is moved.
+fn offs_good(l: [OffChannel; 4], n: usize, latest: u64) -> bool
+    ensures { λ r. ⌜ r ≡ offsGood l n latest ⌝ }
+{
+    let mut good = true;
+    let mut i: usize = 0;
+    while i < 4 {
+        let c = l[i];
+        good = good & off_place_good(c, i < n, latest);
+        i += 1;
+    }
+    good
+}
+
+fn ons_good(l: [OnChannel; 8], n: usize, latest: u64) -> bool
+    ensures { λ r. ⌜ r ≡ onsGood l n latest ⌝ }
+{
+    let mut good = true;
+    let mut i: usize = 0;
+    while i < 8 {
+        let c = l[i];
+        good = good & on_place_good(c, i < n, latest);
+        i += 1;
+    }
+    good
+}
+
+// Each key of the first n stands nowhere before itself.
+fn offs_distinct(keys: [u32; 4], n: usize) -> bool
+    requires { ⌜ n ≤ 4 ⌝ }
+    ensures { λ r. ⌜ r ≡ distinct isAddress (take n keys) ⌝ }
+{
+    let mut good = true;
+    let mut i: usize = 0;
+    while i < n {
+        let a = keys[i];
+        let at = off_slot(keys, i, a);
+        good = good & (at == i);
+        i += 1;
+    }
+    good
+}
+
+fn ons_distinct(keys: [OnKey; 8], n: usize) -> bool
+    requires { ⌜ n ≤ 8 ⌝ }
+    ensures { λ r. ⌜ r ≡ distinct sameKey (take n keys) ⌝ }
+{
+    let mut good = true;
+    let mut i: usize = 0;
+    while i < n {
+        let k = keys[i];
+        let at = on_slot(keys, i, k.address, k.index);
+        good = good & (at == i);
+        i += 1;
+    }
+    good
+}
+
+pub fn well_formed(t: Table) -> bool
+    ensures { λ r. ⌜ r ≡ wfb t ⌝ }
+{
+    if !numbers_good(t.forwarding, t.source, t.offcount, t.oncount) {
+        return false;
+    }
+    let n = t.offcount as usize;
+    let a = t.offs;
+    if !offs_good(a, n, t.latest) {
+        return false;
+    }
+    let m = t.oncount as usize;
+    let b = t.ons;
+    if !ons_good(b, m, t.latest) {
+        return false;
+    }
+    let k = off_keys(a);
+    let l = on_keys(b);
+    offs_distinct(k, n) & ons_distinct(l, m)
+}
