@@ -74,6 +74,7 @@ pub struct Prefix {
     pub code: u32,
     pub prefix: u32,
 }
+
 pub fn zero() -> u32
     ensures { λ r. ⌜ r ≡ 0 ⌝ }
 {

@@ -116,7 +116,8 @@ pub demand3-tables : (f : Bool) (es : List Call) (a i : ℕ) (s : ℕ → Range)
     → (handedT a i es (repr (new f)) ++ waiting a i (abs (runT es (repr (new f)) .table)) ≡ group (sentBefore s h (missing h)) .made) × (expectedOf a i (abs (runT es (repr (new f)) .table)) ≡ wrap (missing h))
 demand3-tables f es a i s h w b n =
     let g : grantedT a i es (repr (new f)) ≡ granted a i es (new f) = granted-is a i es (new f) (new-good f) in
-    let d = demand3 f es a i s h (sym (ap (λ (l : List Record). allb isReliable l) g) ∙ w) (sym (ap (λ (l : List Record). map packet l) g) ∙ b) n in
-    (ap (λ (l : List (List ℕ)). l ++ waiting a i (abs (runT es (repr (new f)) .table))) (handed-is a i es (new f) (new-good f))
-      ∙ ap (λ (q : State). handedOut a i es (new f) ++ waiting a i q) (end-state f es) ∙ d .0,
-     ap (λ (q : State). expectedOf a i q) (end-state f es) ∙ d .1)
+    let d = demand3 f es a i s h (sym (ap (λ (l : List Record). allb isReliable l) g) ∙ w) (sym (ap (λ (l : List Record). map packet l) g) ∙ b) n in (
+      ap (λ (l : List (List ℕ)). l ++ waiting a i (abs (runT es (repr (new f)) .table))) (handed-is a i es (new f) (new-good f))
+          ∙ ap (λ (q : State). handedOut a i es (new f) ++ waiting a i q) (end-state f es) ∙ d .0,
+      ap (λ (q : State). expectedOf a i q) (end-state f es) ∙ d .1,
+    )
