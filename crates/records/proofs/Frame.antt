@@ -1,4 +1,4 @@
--- Rule 6 looks at groups and bundles alone: the out list and the ack queue stay as they are. Assumes nothing.
+-- Rule 6 looks at groups and bundles alone: the out list and the ack queue stay as they are. And what its code tells. Assumes nothing.
 use mathlib.Core.Path.{_≡_, refl, ap}
 use mathlib.Core.Bool.{Bool, true, false}
 use mathlib.Core.List.{List}

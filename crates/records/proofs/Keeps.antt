@@ -1,10 +1,9 @@
 -- Every step leaves a channel in its form: what it grants keeps the limits, and acks make no list longer. Assumes nothing.
 use mathlib.Core.Path.{_≡_, refl, sym, ap, _∙_}
-use mathlib.Core.Bool.{Bool, true, false, _&&_}
-use Prim.Native.Nat.{ℕ, _≤_}
+use mathlib.Core.Bool.{Bool, true, false}
+use Prim.Native.Nat.{ℕ}
 use native.Mathlib.Omega.{arith}
 use lib.Dec.{ltb, eqb}
-use lib.ListN.{length}
 use Rattle.seq.specs.Num.{sub}
 use Rattle.packet.specs.declared.Record.{Record}
 use Rattle.packet.specs.Data.{isSet, packet, singleAcks, versionOf}
@@ -27,7 +26,7 @@ use Rattle.channel.specs.declared.OnChannel.{OnChannel}
 use Rattle.channel.specs.declared.OffStep.{OffStep}
 use Rattle.channel.specs.declared.OnStep.{OnStep}
 use Rattle.channel.specs.Channel.{absOff, absOn, WfOff, WfOn, roomOff, stepOff, roomOn, stepOn}
-use Rattle.channel.proofs.Laws.{Fits, parts-fit, on-fits, repr-wf-off, repr-wf-on, wf-fits-off, wf-fits-on}
+use Rattle.channel.proofs.Laws.{parts-fit, on-fits, repr-wf-off, repr-wf-on, wf-fits-off, wf-fits-on}
 use Rattle.records.specs.Records.{onAcked, offAcked, offQueued}
 use Rattle.records.proofs.Room.{acked-le}
 

@@ -1,12 +1,12 @@
 -- The room of a channel, by the lists that a rule changes; and which lists grow. Assumes nothing.
-use mathlib.Core.Path.{_≡_, refl, sym, ap, _∙_}
+use mathlib.Core.Path.{_≡_, refl, ap, _∙_}
 use mathlib.Core.Bool.{Bool, true, false, _&&_}
-use mathlib.Core.List.{List, [], _∷_, _++_}
-use Prim.Native.Nat.{ℕ, _+_, _≤_, _<_}
+use mathlib.Core.List.{List}
+use Prim.Native.Nat.{ℕ, _≤_, _<_}
 use native.Mathlib.Omega.{arith}
-use borrow.Author.Tests.{le-leb, lt-leb, eq-eqb, ne-eqb, leb-true}
+use borrow.Author.Tests.{le-leb, lt-leb, leb-true}
 use lib.Dec.{leb}
-use lib.ListN.{length, length-append}
+use lib.ListN.{length}
 use Rattle.lists.specs.Pad.{allb}
 use Rattle.lists.specs.Find.{joined}
 use Rattle.lists.proofs.Pad.{and-left, and-right}
@@ -20,9 +20,7 @@ use Rattle.model.specs.Acks.{ackSingles, ackInSingles, notBefore}
 use Rattle.model.specs.Record.{cumulated, reliableOf}
 use Rattle.model.specs.Rust.{cumulatedIn}
 use Rattle.model.specs.Room.{fitsGroup, fitsData, fitsOff, fitsOn}
-use Rattle.out_list.proofs.Form as Outs
 use Rattle.out_list.proofs.Acks.{length-ackSingles, length-ackCumulative}
-use Rattle.ack_queue.proofs.Form as Queues
 use Rattle.ack_queue.proofs.Forwarded.{length-ackInSingles}
 use Rattle.bundles.proofs.Model as Made
 use Rattle.fragments.specs.Groups.{fitsLists}

@@ -1,20 +1,15 @@
 // One record on its channel (Rust: accept_inner, accept_out), by value: the refusal's number or 0, and the channel after it.
 use ack_queue::AckQueue;
-use bundles::Bundles;
 use channel::OffChannel;
 use channel::OffStep;
 use channel::OnChannel;
 use channel::OnStep;
-use fragments::Added;
-use fragments::Groups;
 use out_list::OutList;
 use packet::OutEntry;
-use packet::Packet;
 use packet::Record;
 use reorder::Reordered;
 use seq::Seq;
 use seq::SeqAlloc;
-use waiting::Waiting;
 ghost use mathlib.Core.Path.{_≡_};
 ghost use mathlib.Core.Bool.{true, false, not, _&&_};
 ghost use Prim.Native.Nat.{_<_};

@@ -52,7 +52,7 @@ fn flag(b: bool) -> u32
 }
 
 impl Table {
-    // "its shared off-channel source starts at 1"
+    // "A new table, forwarding or not as asked, has no channels"; "The shared off-channel source starts at 1".
     pub fn new(forwarding: bool) -> Table
         ensures { λ r. ⌜ r ≡ repr (model.new forwarding) ⌝ }
     {

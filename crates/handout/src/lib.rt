@@ -1,0 +1,282 @@
+// The calls that hand out a bundle, tell whether a handle is held, and read or set the prefixes.
+use bundles::Bundles;
+use calls::Done;
+use calls::Held;
+use calls::Popped;
+use calls::Prefix;
+use channel::OffChannel;
+use channel::OnChannel;
+use packet::Key;
+use table::Table;
+ghost use mathlib.Core.Path.{_≡_};
+ghost use mathlib.Core.Bool.{true};
+ghost use mathlib.Core.List.{map};
+ghost use lib.ListN.{length, take};
+ghost use Rattle.lists.specs.Find.{has};
+ghost use Rattle.packet.specs.Data.{keyIndex, keyMade};
+ghost use Rattle.model.specs.Calls as model;
+ghost use Rattle.model.specs.Rust.{holdsOff, holdsOn};
+ghost use Rattle.bundles.specs.Bundles as waiting;
+ghost use Rattle.channel.specs.Channel.{absOff, absOn};
+ghost use Rattle.table.specs.Table.{Wf};
+ghost use Rattle.calls.specs.Calls.{nextOf, nextLent, holdsOf, lastPrefix, resetOf, transferOf};
+ghost use Rattle.handout.specs.Handout.{placeOn, placeOff, offered, offerOf, nextIn, nextLentIn, OffsWf, OnsWf};
+
+// What comes of a channel's bundles: the refusal's number or 0, whether one is handed out, and its length.
+pub struct Offer {
+    pub code: u32,
+    pub some: u32,
+    pub len: u32,
+}
+
+// ---- next bundle
+
+// The index that a key names, 0 where it names none.
+fn index_of(k: Key) -> u32
+    ensures { λ r. ⌜ r ≡ keyIndex k ⌝ }
+{
+    if k.indexed == 1 {
+        return k.index;
+    }
+    0
+}
+
+// Where the channel stands that the key names, or the count where it is absent.
+fn on_place(t: Table, k: Key) -> usize
+    requires { ⌜ Wf t ⌝ }
+    ensures { λ r. ⌜ r ≡ placeOn t k ⌝ }
+{
+    let keys = table::keys_of(t);
+    let l = keys.ons;
+    let index = index_of(k);
+    table::on_slot(l, t.oncount as usize, k.address, index)
+}
+
+fn off_place(t: Table, k: Key) -> usize
+    requires { ⌜ Wf t ⌝ }
+    ensures { λ r. ⌜ r ≡ placeOff t k ⌝ }
+{
+    let keys = table::keys_of(t);
+    let l = keys.offs;
+    table::off_slot(l, t.offcount as usize, k.address)
+}
+
+// The handles of the bundle that is next go to the lent list, where one waits and they have room there.
+fn hand_out(b: Bundles, lent: &mut [u32]) -> Offer
+    requires { ⌜ waiting.Wf b ⌝ }
+    ensures { λ r. ⌜ r ≡ offerOf (offered (waiting.abs b) (length (now (lent .entry)))) ⌝ }
+    ensures { λ r. ⌜ now (lent .exit) ≡ model.lent (offered (waiting.abs b) (length (now (lent .entry)))) (now (lent .entry)) ⌝ }
+{
+    if b.len == 0 {
+        return Offer {
+            code: 0,
+            some: 0,
+            len: 0,
+        };
+    }
+    let n = bundles::front_len(b);
+    if lent.len() < n as usize {
+        return Offer {
+            code: 12,
+            some: 0,
+            len: 0,
+        };
+    }
+    bundles::write_front(b, lent);
+    Offer {
+        code: 0,
+        some: 1,
+        len: n,
+    }
+}
+
+// A bundle that is handed out is gone from its channel.
+fn next_on(t: Table, k: Key, lent: &mut [u32]) -> Popped
+    requires { ⌜ Wf t × (keyMade k ≡ true) × (k .on ≡ 1) ⌝ }
+    ensures { λ r. ⌜ r ≡ nextIn t k (now (lent .entry)) ⌝ }
+    ensures { λ r. ⌜ now (lent .exit) ≡ nextLentIn t k (now (lent .entry)) ⌝ }
+{
+    let at = on_place(t, k);
+    if t.oncount as usize <= at {
+        return Popped {
+            table: t,
+            code: 13,
+            some: 0,
+            len: 0,
+        };
+    }
+    let c = t.ons[at];
+    let b = c.bundles;
+    let o = hand_out(b, lent);
+    if o.some == 0 {
+        return Popped {
+            table: t,
+            code: o.code,
+            some: 0,
+            len: 0,
+        };
+    }
+    let rest = bundles::pop_front(b);
+    let mut d = c;
+    d.bundles = rest;
+    let mut u = t;
+    u.ons[at] = d;
+    Popped {
+        table: u,
+        code: 0,
+        some: 1,
+        len: o.len,
+    }
+}
+
+fn next_off(t: Table, k: Key, lent: &mut [u32]) -> Popped
+    requires { ⌜ Wf t × (keyMade k ≡ true) × (k .on ≡ 1 → ⊥) ⌝ }
+    ensures { λ r. ⌜ r ≡ nextIn t k (now (lent .entry)) ⌝ }
+    ensures { λ r. ⌜ now (lent .exit) ≡ nextLentIn t k (now (lent .entry)) ⌝ }
+{
+    let at = off_place(t, k);
+    if t.offcount as usize <= at {
+        return Popped {
+            table: t,
+            code: 13,
+            some: 0,
+            len: 0,
+        };
+    }
+    let c = t.offs[at];
+    let b = c.bundles;
+    let o = hand_out(b, lent);
+    if o.some == 0 {
+        return Popped {
+            table: t,
+            code: o.code,
+            some: 0,
+            len: 0,
+        };
+    }
+    let rest = bundles::pop_front(b);
+    let mut d = c;
+    d.bundles = rest;
+    let mut u = t;
+    u.offs[at] = d;
+    Popped {
+        table: u,
+        code: 0,
+        some: 1,
+        len: o.len,
+    }
+}
+
+// The handles of the next bundle of the channel that the key names, written to the lent list from its front.
+pub fn next_bundle(t: Table, k: Key, lent: &mut [u32]) -> Popped
+    ensures { λ r. ⌜ r ≡ nextOf t k (now (lent .entry)) ⌝ }
+    ensures { λ r. ⌜ now (lent .exit) ≡ nextLent t k (now (lent .entry)) ⌝ }
+{
+    if !table::well_formed(t) {
+        return Popped {
+            table: t,
+            code: 1,
+            some: 0,
+            len: 0,
+        };
+    }
+    if !k.well_made() {
+        return Popped {
+            table: t,
+            code: 2,
+            some: 0,
+            len: 0,
+        };
+    }
+    if k.on == 1 {
+        return next_on(t, k, lent);
+    }
+    next_off(t, k, lent)
+}
+
+// ---- held: "in an out list, the buffer, the contiguous queue, a group, or a bundle not yet handed out"
+
+// Whether one of the first n channels holds the handle.
+fn offs_hold(l: [OffChannel; 4], n: usize, handle: u32) -> bool
+    requires { ⌜ OffsWf l n ⌝ }
+    ensures { λ r. ⌜ r ≡ has (holdsOff handle) (map absOff (take n l)) ⌝ }
+{
+    let mut i: usize = 0;
+    while i < n {
+        let c = l[i];
+        if channel::off_holds(c, handle) {
+            return true;
+        }
+        i += 1;
+    }
+    false
+}
+
+fn ons_hold(l: [OnChannel; 8], n: usize, handle: u32) -> bool
+    requires { ⌜ OnsWf l n ⌝ }
+    ensures { λ r. ⌜ r ≡ has (holdsOn handle) (map absOn (take n l)) ⌝ }
+{
+    let mut i: usize = 0;
+    while i < n {
+        let c = l[i];
+        if channel::on_holds(c, handle) {
+            return true;
+        }
+        i += 1;
+    }
+    false
+}
+
+pub fn holds(t: Table, handle: u32) -> Held
+    ensures { λ r. ⌜ r ≡ holdsOf t handle ⌝ }
+{
+    if !table::well_formed(t) {
+        return Held { code: 1, held: 0 };
+    }
+    let a = t.offs;
+    if offs_hold(a, t.offcount as usize, handle) {
+        return Held { code: 0, held: 1 };
+    }
+    let b = t.ons;
+    if ons_hold(b, t.oncount as usize, handle) {
+        return Held { code: 0, held: 1 };
+    }
+    Held { code: 0, held: 0 }
+}
+
+// ---- the prefixes
+
+pub fn last_accepted_prefix(t: Table) -> Prefix
+    ensures { λ r. ⌜ r ≡ lastPrefix t ⌝ }
+{
+    if !table::well_formed(t) {
+        return Prefix { code: 1, prefix: 0 };
+    }
+    Prefix {
+        code: 0,
+        prefix: t.prefix,
+    }
+}
+
+pub fn reset_prefix_offset(t: Table) -> Done
+    ensures { λ r. ⌜ r ≡ resetOf t ⌝ }
+{
+    if !table::well_formed(t) {
+        return Done { table: t, code: 1 };
+    }
+    let mut u = t;
+    u.offset = 0;
+    Done { table: u, code: 0 }
+}
+
+// The prefix offset becomes the last prefix.
+pub fn transfer_prefix_offset_from_last_received(t: Table) -> Done
+    ensures { λ r. ⌜ r ≡ transferOf t ⌝ }
+{
+    if !table::well_formed(t) {
+        return Done { table: t, code: 1 };
+    }
+    let mut u = t;
+    u.offset = t.prefix;
+    Done { table: u, code: 0 }
+}

@@ -1,0 +1,4 @@
+pub mod Numbers
+pub mod Readers
+pub mod FirstWord
+pub mod Sample

@@ -1,0 +1,4 @@
+pub mod Text
+pub mod Given
+pub mod Grammar
+pub mod FirstWord
