@@ -8,3 +8,4 @@ pub mod Onch
 pub mod Frag
 pub mod Tabl
 pub mod Hand
+pub mod Recv

@@ -1,0 +1,8 @@
+pub mod Step
+pub mod Judge
+pub mod Answer
+pub mod Turn
+pub mod Aims
+pub mod Arms
+pub mod Small
+pub mod Door

@@ -1,0 +1,32 @@
+use Rattle.receive.proofs.Door.{door}
+use Rattle.receive.proofs.batch_made.Statement.{statement}
+use Rattle.receive.proofs.batch_made.Tie as tie
+
+cast-n : tie.Need-cast-n
+cast-n c = search door
+
+returns : tie.Need-returns
+returns c = search door
+
+returns-2 : tie.Need-returns-2
+returns-2 c = search door
+
+sub-r : tie.Need-sub-r
+sub-r c = search door
+
+mul-r : tie.Need-mul-r
+mul-r c = search door
+
+element-copy-out-r : tie.Need-element-copy-out-r
+element-copy-out-r c = search door
+
+well-made-requires : tie.Need-well-made-requires
+well-made-requires c κs = search door
+
+returns-3 : tie.Need-returns-3
+returns-3 c = search door
+
+pub batch-made-spec : {M : Type 1} → statement M
+batch-made-spec =
+    tie.close
+    (tie.spec cast-n returns returns-2 sub-r mul-r element-copy-out-r well-made-requires returns-3)

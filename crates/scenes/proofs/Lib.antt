@@ -1,0 +1,2 @@
+pub mod OutKept
+pub mod AcksKept
