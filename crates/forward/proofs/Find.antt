@@ -1,0 +1,166 @@
+-- Find or create: what each return owes, over plain values. Assumes nothing.
+use mathlib.Core.Path.{_≡_, refl, ap, sym, _∙_}
+use mathlib.Core.Bool.{Bool, true, false, cond, not}
+use Prim.Native.Nat.{ℕ, _+_, _≤_, _<_}
+use borrow.Author.Tests.{eq-eqb, ne-eqb, not-true, not-false}
+use lib.Dec.{ltb}
+use lib.ListN.{getD}
+use Rattle.lists.specs.Find.{findBy, putBy}
+use Rattle.lists.proofs.Find.{find-put}
+use Rattle.packet.specs.declared.Key.{Key}
+use Rattle.packet.specs.declared.View.{View}
+use Rattle.packet.specs.Data.{isSet, keyIndex, keyMade}
+use Rattle.model.specs.State as model
+use Rattle.model.specs.Refusals.{outOfRange, tableFull}
+use Rattle.model.specs.Rust.{firstVersion, keyOn, keyOff, made, keyView, viewIf}
+use Rattle.model.specs.Calls as calls
+use Rattle.model.specs.Port.{Reply, untimed, refuse, grant, hasPlace, find, channelS, reply}
+use Rattle.kept.proofs.Table.{on-at-address, on-at-index, off-at-address}
+use Rattle.channel.specs.declared.OffChannel.{OffChannel}
+use Rattle.channel.specs.declared.OnChannel.{OnChannel}
+use Rattle.channel.specs.Channel.{absOff, reprOff, absOn, reprOn}
+use Rattle.channel.proofs.Laws.{abs-repr-off, abs-repr-on}
+use Rattle.table.specs.declared.Table.{Table}
+use Rattle.table.specs.Table.{abs, repr, Wf, wfb}
+use Rattle.table.proofs.Laws.{storeOn, storeOff}
+use Rattle.table.proofs.Test.{test-wf}
+use Rattle.calls.specs.declared.Found.{Found}
+use Rattle.calls.specs.Calls.{Outcome, tableReply, called, foundOf, channelOf}
+use Rattle.calls.proofs.Called.{called-refused, called-granted, on-key-made, off-key-made, on-key-fits, off-key-fits}
+use Rattle.forward.specs.Forward.{placeOn, placeOff, refusedBy, foundIn}
+use Rattle.forward.proofs.Places.{wf-fits, on-room, off-room, on-full, off-full, on-taken, off-taken, on-stored, off-stored}
+
+-- ---- a channel put into a state is found there
+
+pub on-found : (a i v : ℕ) (x : model.OnChannel) (p : model.Protocol) → x .address ≡ a → x .index ≡ i → model.onAt a i v (model.putOn x p) ≡ x
+on-found a i v x p ka ki =
+    (λ j. findBy (model.isOn a i) (model.newOn a i v) (putBy (model.isOn (ka j) (ki j)) x (p .ons)))
+    ∙ find-put (model.isOn a i) (model.newOn a i v) x (p .ons) (rw (eq-eqb (x .address) a ka, eq-eqb (x .index) i ki))
+
+pub off-found : (a : ℕ) (x : model.OffChannel) (p : model.Protocol) → x .address ≡ a → model.offAt a (model.putOff x p) ≡ x
+off-found a x p ka =
+    (λ j. findBy (model.isOff a) (model.newOff a) (putBy (model.isOff (ka j)) x (p .offs))) ∙ find-put (model.isOff a) (model.newOff a) x (p .offs) (eq-eqb (x .address) a ka)
+
+on-view-made : (k : Key) (p : model.Protocol) → k .on ≡ 1 → keyView k (made k p) ≡ model.onView (keyOn k p)
+on-view-made k p o =
+    let a = k .address in
+    let i = keyIndex k in
+    let v = firstVersion k in
+    ap (λ (b : Bool). viewIf b a i v (made k p)) (eq-eqb (k .on) 1 o)
+    ∙ ap (λ (q : model.Protocol). model.onView (model.onAt a i v q)) (on-key-made k p o)
+    ∙ ap (λ (c : model.OnChannel). model.onView c) (on-found a i v (keyOn k p) p (on-at-address a i v p) (on-at-index a i v p))
+
+off-view-made : (k : Key) (p : model.Protocol) → (k .on ≡ 1 → ⊥) → keyView k (made k p) ≡ model.offView (keyOff k p)
+off-view-made k p o =
+    let a = k .address in
+    ap (λ (b : Bool). viewIf b a (keyIndex k) (firstVersion k) (made k p)) (ne-eqb (k .on) 1 o)
+    ∙ ap (λ (q : model.Protocol). model.offView (model.offAt a q)) (off-key-made k p o)
+    ∙ ap (λ (c : model.OffChannel). model.offView c) (off-found a (keyOff k p) p (off-at-address a p))
+
+-- ---- the model's reply, by the tests: 2, 4
+
+module _ (k : Key) (s : model.State) where
+  abbrev place : Bool
+  place = hasPlace (isSet (k .on)) (k .address) (keyIndex k) (s .protocol)
+
+  reply-malformed : keyMade k ≡ false → channelS k s ≡ refuse outOfRange (untimed s)
+  unfolding channelS
+  reply-malformed v = λ j. find (v j) place k s
+
+  reply-full : keyMade k ≡ true → place ≡ false → channelS k s ≡ refuse tableFull (untimed s)
+  unfolding channelS
+  reply-full v h = λ j. find (v j) (h j) k s
+
+  reply-made : keyMade k ≡ true → place ≡ true → channelS k s ≡ grant (calls.found (keyView k (made k (s .protocol)))) (model.withProtocol (made k (s .protocol)) s)
+  unfolding channelS
+  reply-made v h = λ j. find (v j) (h j) k s
+
+-- ---- past 1 and 2: the table's kind of channel is full
+
+full-is : (t : Table) (k : Key) (f : Found) → Wf t → keyMade k ≡ true → place k (abs t) ≡ false → f ≡ refusedBy t 4 → f ≡ foundIn t k
+unfolding foundIn
+full-is t k f w v h q = q ∙ (λ j. refusedBy (w .form j) 4) ∙ ap (λ (r : Reply). foundOf (tableReply r)) (sym (reply-full k (abs t) v h))
+
+pub find-on-full : (t : Table) (k : Key) (i at : ℕ) (f : Found) → Wf t → keyMade k ≡ true → k .on ≡ 1 → i ≡ keyIndex k → at ≡ placeOn (k .address) i (abs t) → 8 ≤ at
+    → f ≡ refusedBy t 4 → f ≡ foundIn t k
+find-on-full t k i at f w v o ki e h q =
+    let p = abs t .protocol in
+    let e' : at ≡ placeOn (k .address) (keyIndex k) (abs t) = e ∙ (λ j. placeOn (k .address) (ki j) (abs t)) in
+    full-is t k f w v (ap (λ (b : Bool). hasPlace b (k .address) (keyIndex k) p) (eq-eqb (k .on) 1 o) ∙ on-full (k .address) (keyIndex k) at (abs t) (wf-fits t w) e' h) q
+
+pub find-off-full : (t : Table) (k : Key) (at : ℕ) (f : Found) → Wf t → keyMade k ≡ true → (k .on ≡ 1 → ⊥) → at ≡ placeOff (k .address) (abs t) → 4 ≤ at
+    → f ≡ refusedBy t 4 → f ≡ foundIn t k
+find-off-full t k at f w v o e h q =
+    let p = abs t .protocol in
+    full-is t k f w v (ap (λ (b : Bool). hasPlace b (k .address) (keyIndex k) p) (ne-eqb (k .on) 1 o) ∙ off-full (k .address) (keyIndex k) at (abs t) (wf-fits t w) e h) q
+
+-- ---- the channel, found or made
+
+made-is : (t u : Table) (k : Key) (v : View) → keyMade k ≡ true → place k (abs t) ≡ true → u ≡ repr (model.withProtocol (made k (abs t .protocol)) (abs t)) → v ≡ keyView k (made k (abs t .protocol))
+    → _≡_ {A = Found} (record { table = u; code = 0; view = v }) (foundIn t k)
+unfolding foundIn
+made-is t u k v m h e q = (λ j. record { table = e j; code = 0; view = q j }) ∙ ap (λ (r : Reply). foundOf (tableReply r)) (sym (reply-made k (abs t) m h))
+
+pub find-on-made : (t : Table) (k : Key) (i fv at n : ℕ) (z d : OnChannel) (v : View) → Wf t → keyMade k ≡ true → k .on ≡ 1 → i ≡ keyIndex k → fv ≡ firstVersion k
+    → at ≡ placeOn (k .address) i (abs t) → at < 8
+    → d ≡ cond (ltb at (t .oncount)) (getD (t .ons) at z) (reprOn (model.newOn (k .address) i fv))
+    → v ≡ model.onView (absOn d)
+    → n ≡ cond (ltb at (t .oncount)) (t .oncount) (t .oncount + 1)
+    → _≡_ {A = Found} (record { table = storeOn t n at d; code = 0; view = v }) (foundIn t k)
+find-on-made t k i fv at n z d v w m o ki kv e h q vq nq =
+    let s = abs t in
+    let p = s .protocol in
+    let a = k .address in
+    let x = keyOn k p in
+    let ka = on-at-address a (keyIndex k) (firstVersion k) p in
+    let kx = on-at-index a (keyIndex k) (firstVersion k) p in
+    let e' : at ≡ placeOn a (keyIndex k) s = e ∙ (λ j. placeOn a (ki j) s) in
+    let q' : d ≡ cond (ltb at (t .oncount)) (getD (t .ons) at z) (reprOn (model.newOn a (keyIndex k) (firstVersion k))) = q ∙ (λ j. cond (ltb at (t .oncount)) (getD (t .ons) at z) (reprOn (model.newOn a (ki j) (kv j)))) in
+    let g : d ≡ reprOn x = on-taken s t (w .form) (wf-fits t w) a (keyIndex k) (firstVersion k) at z d e' q' in
+    let u : storeOn t n at d ≡ repr (model.withProtocol (made k p) s) = on-stored s t (w .form) (wf-fits t w) a (keyIndex k) at n x d ka kx e' h nq g ∙ ap (λ (y : model.Protocol). repr (model.withProtocol y s)) (sym (on-key-made k p o)) in
+    let y : v ≡ keyView k (made k p) = vq ∙ ap (λ (c : OnChannel). model.onView (absOn c)) g ∙ ap (λ (c : model.OnChannel). model.onView c) (abs-repr-on x (on-key-fits t w k)) ∙ sym (on-view-made k p o) in
+    made-is t (storeOn t n at d) k v m (ap (λ (b : Bool). hasPlace b a (keyIndex k) p) (eq-eqb (k .on) 1 o) ∙ on-room a (keyIndex k) at s e' h) u y
+
+pub find-off-made : (t : Table) (k : Key) (at n : ℕ) (z d : OffChannel) (v : View) → Wf t → keyMade k ≡ true → (k .on ≡ 1 → ⊥)
+    → at ≡ placeOff (k .address) (abs t) → at < 4
+    → d ≡ cond (ltb at (t .offcount)) (getD (t .offs) at z) (reprOff (model.newOff (k .address)))
+    → v ≡ model.offView (absOff d)
+    → n ≡ cond (ltb at (t .offcount)) (t .offcount) (t .offcount + 1)
+    → _≡_ {A = Found} (record { table = storeOff t n at d; code = 0; view = v }) (foundIn t k)
+find-off-made t k at n z d v w m o e h q vq nq =
+    let s = abs t in
+    let p = s .protocol in
+    let a = k .address in
+    let x = keyOff k p in
+    let g : d ≡ reprOff x = off-taken s t (w .form) (wf-fits t w) a at z d e q in
+    let u : storeOff t n at d ≡ repr (model.withProtocol (made k p) s) = off-stored s t (w .form) (wf-fits t w) a at n x d (off-at-address a p) e h nq g ∙ ap (λ (y : model.Protocol). repr (model.withProtocol y s)) (sym (off-key-made k p o)) in
+    let y : v ≡ keyView k (made k p) = vq ∙ ap (λ (c : OffChannel). model.offView (absOff c)) g ∙ ap (λ (c : model.OffChannel). model.offView c) (abs-repr-off x (off-key-fits t w k)) ∙ sym (off-view-made k p o) in
+    made-is t (storeOff t n at d) k v m (ap (λ (b : Bool). hasPlace b a (keyIndex k) p) (ne-eqb (k .on) 1 o) ∙ off-room a (keyIndex k) at s e h) u y
+
+-- ---- the whole call: 1, 2, and the rest
+
+pub tested : (t : Table) (b : Bool) → b ≡ wfb t → not b ≡ false → Wf t
+tested t b e h = test-wf t (sym e ∙ not-false b h)
+
+pub key-tested : (k : Key) (b : Bool) → b ≡ keyMade k → not b ≡ false → keyMade k ≡ true
+key-tested k b e h = sym e ∙ not-false b h
+
+pub channel-unformed : (t : Table) (k : Key) (b : Bool) (f : Found) → b ≡ wfb t → not b ≡ true → f ≡ refusedBy t 1 → f ≡ channelOf t k
+unfolding channelOf
+channel-unformed t k b f e h q = q ∙ ap (λ (o : Outcome). foundOf o) (sym (called-refused (calls.channel k) t (sym e ∙ not-true b h)))
+
+-- past 1 the call is the model's
+channel-formed : (t : Table) (k : Key) (b : Bool) → b ≡ wfb t → not b ≡ false → channelOf t k ≡ foundIn t k
+unfolding channelOf foundIn reply
+channel-formed t k b e h = ap (λ (o : Outcome). foundOf o) (called-granted (calls.channel k) t (sym e ∙ not-false b h))
+
+pub channel-malformed : (t : Table) (k : Key) (b m : Bool) (f : Found) → b ≡ wfb t → not b ≡ false → m ≡ keyMade k → not m ≡ true → f ≡ refusedBy t 2 → f ≡ channelOf t k
+unfolding foundIn
+channel-malformed t k b m f e h y n q =
+    q
+    ∙ (λ j. refusedBy (tested t b e h .form j) 2)
+    ∙ ap (λ (r : Reply). foundOf (tableReply r)) (sym (reply-malformed k (abs t) (sym y ∙ not-true m n)))
+    ∙ sym (channel-formed t k b e h)
+
+pub channel-found : (t : Table) (k : Key) (b : Bool) (f : Found) → b ≡ wfb t → not b ≡ false → f ≡ foundIn t k → f ≡ channelOf t k
+channel-found t k b f e h q = q ∙ sym (channel-formed t k b e h)

@@ -1,0 +1,322 @@
+-- Forwarded out: what each return and each callee asks, over plain values. Assumes nothing.
+use mathlib.Core.Path.{_≡_, refl, ap, sym, subst, _∙_}
+use mathlib.Core.Bool.{Bool, true, false, cond, not}
+use Prim.Native.Nat.{ℕ, _+_, _≤_, _<_}
+use native.Mathlib.Omega.{arith}
+use borrow.Author.Tests.{eq-eqb, ne-eqb, le-leb, lt-leb, not-true, not-false}
+use lib.Dec.{ltb}
+use lib.ListN.{getD}
+use Rattle.packet.specs.declared.Record.{Record}
+use Rattle.packet.specs.declared.View.{View}
+use Rattle.packet.specs.Data.{isSet, wellMade, indexOf, versionOf}
+use Rattle.model.specs.State as model
+use Rattle.model.specs.Refusals.{outOfRange, timeBelow, tableFull, cumulativeOff}
+use Rattle.model.specs.Record.{granted}
+use Rattle.model.specs.Room.{fitsOff, fitsOn, fits}
+use Rattle.model.specs.Wellformed.{good, wellFormed}
+use Rattle.model.specs.Rust.{forwardOn, forwardOff}
+use Rattle.model.specs.Calls as calls
+use Rattle.model.specs.Port.{Reply, hasPlace, onTime, acceptOutS, reply}
+use Rattle.lists.proofs.Pad.{and-left}
+use Rattle.kept.proofs.Room.{Fits}
+use Rattle.kept.proofs.Table.{on-at-address, on-at-index, off-at-address, on-at-fits, off-at-fits}
+use Rattle.channel.specs.declared.OffChannel.{OffChannel}
+use Rattle.channel.specs.declared.OnChannel.{OnChannel}
+use Rattle.channel.specs.declared.OffStep.{OffStep}
+use Rattle.channel.specs.declared.OnStep.{OnStep}
+use Rattle.channel.specs.Channel.{absOff, reprOff, absOn, reprOn, WfOff, WfOn, roomOff, roomOn, stepOff, stepOn}
+use Rattle.channel.proofs.Laws.{abs-repr-off, abs-repr-on, repr-wf-off, repr-wf-on}
+use Rattle.table.specs.declared.Table.{Table}
+use Rattle.table.specs.Table.{abs, repr, Wf, wfb}
+use Rattle.table.proofs.Laws.{storeOn, storeOff}
+use Rattle.calls.specs.declared.Found.{Found}
+use Rattle.calls.specs.Calls.{Outcome, tableReply, called, foundOf, acceptedOut}
+use Rattle.calls.proofs.Called.{called-refused, called-granted}
+use Rattle.forward.specs.Forward.{placeOn, placeOff, refusedBy, outIn}
+use Rattle.forward.proofs.Places.{wf-fits, on-room, off-room, on-full, off-full, on-taken, off-taken, on-stored, off-stored}
+use Rattle.forward.proofs.Find.{tested}
+use Rattle.forward.proofs.Model.{onFor, offFor, onSent, offSent, onPut, offPut, roomedOn, roomedOff, out-malformed, out-late, out-full, out-on, out-off, out-cumulative}
+
+-- the table at a new time
+abbrev pub timeSet : ℕ → Table → Table
+timeSet time t =
+    record {
+      latest = time;
+      forwarding = t .forwarding;
+      prefix = t .prefix;
+      offset = t .offset;
+      source = t .source;
+      offcount = t .offcount;
+      oncount = t .oncount;
+      offs = t .offs;
+      ons = t .ons;
+    }
+
+set-form : (time : ℕ) (t : Table) → Wf t → timeSet time t ≡ repr (model.withTime time (abs t))
+unfolding repr
+set-form time t w = ap (λ (x : Table). timeSet time x) (w .form)
+
+wf-room : (t : Table) → Wf t → fits (abs t .protocol) ≡ true
+unfolding wellFormed
+wf-room t w = and-left (fits (abs t .protocol)) (good (abs t)) (w .meets)
+
+on-time : (time : ℕ) (t : Table) → t .latest ≤ time → onTime time (abs t) ≡ true
+unfolding abs
+on-time time t h = le-leb (t .latest) time h
+
+-- ---- the answer, where the model's reply is known
+
+refused-is : (t u : Table) (time a n : ℕ) (r : Record) (f : Found) (q : Reply) → acceptOutS time a r (abs t) ≡ q → f ≡ refusedBy u n → refusedBy u n ≡ foundOf (tableReply q) → f ≡ outIn t time a r
+unfolding outIn
+refused-is t u time a n r f q e p g = p ∙ g ∙ ap (λ (x : Reply). foundOf (tableReply x)) (sym e)
+
+-- 4
+full-is : (t : Table) (time a : ℕ) (r : Record) (f : Found) (on : Bool) → Wf t → wellMade r ≡ true → t .latest ≤ time → isSet (r .on) ≡ on → hasPlace on a (indexOf r) (abs t .protocol) ≡ false
+    → f ≡ refusedBy (timeSet time t) 4 → f ≡ outIn t time a r
+full-is t time a r f on w m l o h q =
+    refused-is
+    t
+    (timeSet time t)
+    time
+    a
+    4
+    r
+    f
+    (record { answer = calls.refused tableFull; state = model.withTime time (abs t) })
+    (out-full time a r (abs t) m (on-time time t l) (ap (λ (b : Bool). hasPlace b a (indexOf r) (abs t .protocol)) o ∙ h))
+    q
+    (λ j. refusedBy (set-form time t w j) 4)
+
+pub out-on-full : (t : Table) (time a i k : ℕ) (r : Record) (f : Found) → Wf t → wellMade r ≡ true → t .latest ≤ time → r .on ≡ 1 → i ≡ indexOf r → k ≡ placeOn a i (abs t) → 8 ≤ k
+    → f ≡ refusedBy (timeSet time t) 4 → f ≡ outIn t time a r
+out-on-full t time a i k r f w m l o ki e h q =
+    full-is t time a r f true w m l (eq-eqb (r .on) 1 o) (on-full a (indexOf r) k (abs t) (wf-fits t w) (e ∙ (λ j. placeOn a (ki j) (abs t))) h) q
+
+pub out-off-full : (t : Table) (time a k : ℕ) (r : Record) (f : Found) → Wf t → wellMade r ≡ true → t .latest ≤ time → (r .on ≡ 1 → ⊥) → k ≡ placeOff a (abs t) → 4 ≤ k
+    → f ≡ refusedBy (timeSet time t) 4 → f ≡ outIn t time a r
+out-off-full t time a k r f w m l o e h q =
+    full-is t time a r f false w m l (ne-eqb (r .on) 1 o) (off-full a (indexOf r) k (abs t) (wf-fits t w) e h) q
+
+-- ---- the channel that is handed on: found or new, in its form
+
+module _ (t : Table) (time a i v k : ℕ) (r : Record) (z d : OnChannel) (w : Wf t) (ki : i ≡ indexOf r) (kv : v ≡ versionOf r) (e : k ≡ placeOn a i (abs t))
+    (q : d ≡ cond (ltb k (t .oncount)) (getD (t .ons) k z) (reprOn (model.newOn a i v))) where
+  on-at : k ≡ placeOn a (indexOf r) (abs t)
+  on-at = e ∙ (λ j. placeOn a (ki j) (abs t))
+
+  on-is : d ≡ reprOn (onFor a r (abs t))
+  on-is =
+      on-taken (abs t) t (w .form) (wf-fits t w) a (indexOf r) (versionOf r) k z d on-at
+      (q ∙ (λ j. cond (ltb k (t .oncount)) (getD (t .ons) k z) (reprOn (model.newOn a (ki j) (kv j)))))
+
+  on-fits : fitsOn (onFor a r (abs t)) ≡ true
+  on-fits = on-at-fits (abs t .protocol) (wf-fits t w) a (indexOf r) (versionOf r)
+
+  on-abs : absOn d ≡ onFor a r (abs t)
+  on-abs = ap (λ (c : OnChannel). absOn c) on-is ∙ abs-repr-on (onFor a r (abs t)) on-fits
+
+  on-wf : WfOn d
+  on-wf = subst (λ (c : OnChannel). WfOn c) (sym on-is) (repr-wf-on (onFor a r (abs t)) on-fits)
+
+  -- what the channel's step says of room
+  on-step : (s : OnStep) → s ≡ stepOn (granted (forwardOn time r (absOn d))) d → s ≡ roomOn (fitsOn (onSent time a r (abs t))) (onSent time a r (abs t)) d
+  unfolding stepOn
+  on-step s p = p ∙ ap (λ (c : model.OnChannel). roomOn (fitsOn (forwardOn time r c)) (forwardOn time r c) d) on-abs
+
+module _ (t : Table) (time a k : ℕ) (r : Record) (z d : OffChannel) (w : Wf t) (e : k ≡ placeOff a (abs t))
+    (q : d ≡ cond (ltb k (t .offcount)) (getD (t .offs) k z) (reprOff (model.newOff a))) where
+  off-is : d ≡ reprOff (offFor a (abs t))
+  off-is = off-taken (abs t) t (w .form) (wf-fits t w) a k z d e q
+
+  off-fits : fitsOff (offFor a (abs t)) ≡ true
+  off-fits = off-at-fits (abs t .protocol) (wf-fits t w) a
+
+  off-abs : absOff d ≡ offFor a (abs t)
+  off-abs = ap (λ (c : OffChannel). absOff c) off-is ∙ abs-repr-off (offFor a (abs t)) off-fits
+
+  off-wf : WfOff d
+  off-wf = subst (λ (c : OffChannel). WfOff c) (sym off-is) (repr-wf-off (offFor a (abs t)) off-fits)
+
+  off-step : (b : Bool) (s : OffStep) → isSet (r .hascumulative) ≡ b → s ≡ stepOff (forwardOff (isSet (r .hascumulative)) time r (absOff d)) d → s ≡ stepOff (forwardOff b time r (offFor a (abs t))) d
+  off-step b s c p = p ∙ (λ j. stepOff (forwardOff (c j) time r (off-abs j)) d)
+
+-- a step's code says whether there was room
+room-code : (b : Bool) (x : model.OnChannel) (d : OnChannel) → roomOn b x d .code ≡ 0 → b ≡ true
+room-code true x d h = refl
+room-code false x d h = absurd (omega (arith, h))
+
+no-room-code : (b : Bool) (x : model.OnChannel) (d : OnChannel) → (roomOn b x d .code ≡ 0 → ⊥) → b ≡ false
+no-room-code true x d h = absurd (h refl)
+no-room-code false x d h = refl
+
+pub out-on-requires : (t : Table) (a i v k : ℕ) (r : Record) (z d : OnChannel) → Wf t → i ≡ indexOf r → v ≡ versionOf r → k ≡ placeOn a i (abs t)
+    → d ≡ cond (ltb k (t .oncount)) (getD (t .ons) k z) (reprOn (model.newOn a i v)) → WfOn d
+out-on-requires t a i v k r z d w ki kv e q = on-wf t 0 a i v k r z d w ki kv e q
+
+pub out-off-requires : (t : Table) (a k : ℕ) (r : Record) (z d : OffChannel) → Wf t → k ≡ placeOff a (abs t)
+    → d ≡ cond (ltb k (t .offcount)) (getD (t .offs) k z) (reprOff (model.newOff a)) → WfOff d
+out-off-requires t a k r z d w e q = off-wf t 0 a k r z d w e q
+
+-- 11, on-channel
+pub out-on-over : (t : Table) (time a i v k : ℕ) (r : Record) (z d : OnChannel) (s : OnStep) (f : Found) → Wf t → wellMade r ≡ true → t .latest ≤ time → r .on ≡ 1
+    → i ≡ indexOf r → v ≡ versionOf r → k ≡ placeOn a i (abs t) → k < 8
+    → d ≡ cond (ltb k (t .oncount)) (getD (t .ons) k z) (reprOn (model.newOn a i v))
+    → s ≡ stepOn (granted (forwardOn time r (absOn d))) d → (s .code ≡ 0 → ⊥)
+    → f ≡ refusedBy (timeSet time t) (s .code) → f ≡ outIn t time a r
+out-on-over t time a i v k r z d s f w m l o ki kv e h q p n g =
+    let x = onSent time a r (abs t) in
+    let st : s ≡ roomOn (fitsOn x) x d = on-step t time a i v k r z d w ki kv e q s p in
+    let no : fitsOn x ≡ false = no-room-code (fitsOn x) x d (λ y. n (ap (λ (u : OnStep). u .code) st ∙ y)) in
+    let code : s .code ≡ 11 = ap (λ (u : OnStep). u .code) st ∙ ap (λ (b : Bool). roomOn b x d .code) no in
+    let place = on-room a (indexOf r) k (abs t) (on-at t time a i v k r z d w ki kv e q) h in
+    refused-is
+    t
+    (timeSet time t)
+    time
+    a
+    (s .code)
+    r
+    f
+    (roomedOn false time (abs t) x)
+    (out-on time a r (abs t) (wf-room t w) m (on-time time t l) (eq-eqb (r .on) 1 o) place ∙ ap (λ (b : Bool). roomedOn b time (abs t) x) no)
+    g
+    (λ j. refusedBy (set-form time t w j) (code j))
+
+-- granted, on-channel
+pub out-on-granted : (t : Table) (time a i v k n : ℕ) (r : Record) (z d : OnChannel) (s : OnStep) (y : View) → Wf t → wellMade r ≡ true → t .latest ≤ time → r .on ≡ 1
+    → i ≡ indexOf r → v ≡ versionOf r → k ≡ placeOn a i (abs t) → k < 8
+    → d ≡ cond (ltb k (t .oncount)) (getD (t .ons) k z) (reprOn (model.newOn a i v))
+    → s ≡ stepOn (granted (forwardOn time r (absOn d))) d → s .code ≡ 0
+    → y ≡ model.onView (absOn (s .channel)) → n ≡ cond (ltb k (t .oncount)) (t .oncount) (t .oncount + 1)
+    → _≡_ {A = Found} (record { table = storeOn (timeSet time t) n k (s .channel); code = 0; view = y }) (outIn t time a r)
+unfolding outIn
+out-on-granted t time a i v k n r z d s y w m l o ki kv e h q p c yq nq =
+    let x = onSent time a r (abs t) in
+    let pr = abs t .protocol in
+    let st : s ≡ roomOn (fitsOn x) x d = on-step t time a i v k r z d w ki kv e q s p in
+    let yes : fitsOn x ≡ true = room-code (fitsOn x) x d (sym (ap (λ (u : OnStep). u .code) st) ∙ c) in
+    let ch : s .channel ≡ reprOn x = ap (λ (u : OnStep). u .channel) st ∙ ap (λ (b : Bool). roomOn b x d .channel) yes in
+    let e' = on-at t time a i v k r z d w ki kv e q in
+    let place = on-room a (indexOf r) k (abs t) e' h in
+    let vw : y ≡ model.onView x = yq ∙ ap (λ (u : OnChannel). model.onView (absOn u)) ch ∙ ap (λ (u : model.OnChannel). model.onView u) (abs-repr-on x yes) in
+    let tb : storeOn (timeSet time t) n k (s .channel) ≡ repr (onPut time (abs t) x) =
+    on-stored (model.withTime time (abs t)) (timeSet time t) (set-form time t w) (wf-fits t w) a (indexOf r) k n x (s .channel) (on-at-address a (indexOf r) (versionOf r) pr) (on-at-index a (indexOf r) (versionOf r) pr) e' h nq ch in
+    (λ j. record { table = tb j; code = 0; view = vw j })
+    ∙ ap (λ (u : Reply). foundOf (tableReply u)) (sym (out-on time a r (abs t) (wf-room t w) m (on-time time t l) (eq-eqb (r .on) 1 o) place ∙ ap (λ (b : Bool). roomedOn b time (abs t) x) yes))
+
+-- ---- off-channel: 6 and 11 by the flag and the room
+
+-- what a step with that code is: 11 where there is no room, else 6 where a cumulative ack is given and 0 where none is
+over-off : (b : Bool) (x : model.OffChannel) (d : OffChannel) → roomOff b x d .code ≡ 11 → b ≡ false
+over-off true x d h = absurd (omega (arith, h))
+over-off false x d h = refl
+
+roomy-off : (b : Bool) (x : model.OffChannel) (d : OffChannel) → (roomOff b x d .code ≡ 11 → ⊥) → b ≡ true
+roomy-off true x d h = refl
+roomy-off false x d h = absurd (h refl)
+
+module _ (t : Table) (time a k : ℕ) (r : Record) (z d : OffChannel) (s : OffStep) (w : Wf t) (m : wellMade r ≡ true) (l : t .latest ≤ time) (o : r .on ≡ 1 → ⊥)
+    (e : k ≡ placeOff a (abs t)) (h : k < 4) (q : d ≡ cond (ltb k (t .offcount)) (getD (t .offs) k z) (reprOff (model.newOff a)))
+    (p : s ≡ stepOff (forwardOff (isSet (r .hascumulative)) time r (absOff d)) d) where
+  abbrev sent : model.OffChannel
+  sent = offSent time a r (abs t)
+
+  place : hasPlace false a (indexOf r) (abs t .protocol) ≡ true
+  place = off-room a (indexOf r) k (abs t) e h
+
+  -- with a cumulative ack it is 6, and the channel as it was
+  six : isSet (r .hascumulative) ≡ true → s ≡ record { code = 6; channel = reprOff (offFor a (abs t)) }
+  unfolding stepOff
+  six c = off-step t time a k r z d w e q true s c p
+
+  free : isSet (r .hascumulative) ≡ false → s ≡ roomOff (fitsOff sent) sent d
+  unfolding stepOff
+  free c = off-step t time a k r z d w e q false s c p
+
+  reply-six : isSet (r .hascumulative) ≡ true → acceptOutS time a r (abs t) ≡ record { answer = calls.refused cumulativeOff; state = offPut time (abs t) (offFor a (abs t)) }
+  reply-six c = out-cumulative time a r (abs t) m (on-time time t l) (ne-eqb (r .on) 1 o) c place
+
+  reply-free : (b : Bool) → isSet (r .hascumulative) ≡ false → fitsOff sent ≡ b → acceptOutS time a r (abs t) ≡ roomedOff b time (abs t) sent
+  reply-free b c y = out-off time a r (abs t) (wf-room t w) m (on-time time t l) (ne-eqb (r .on) 1 o) c place ∙ ap (λ (b : Bool). roomedOff b time (abs t) sent) y
+
+  -- the table with the channel that the step leaves
+  stored : (n : ℕ) (x : model.OffChannel) → x .address ≡ a → n ≡ cond (ltb k (t .offcount)) (t .offcount) (t .offcount + 1) → s .channel ≡ reprOff x
+      → storeOff (timeSet time t) n k (s .channel) ≡ repr (offPut time (abs t) x)
+  stored n x ka nq ch = off-stored (model.withTime time (abs t)) (timeSet time t) (set-form time t w) (wf-fits t w) a k n x (s .channel) ka e h nq ch
+
+  over : (b : Bool) (f : Found) → isSet (r .hascumulative) ≡ b → s .code ≡ 11 → f ≡ refusedBy (timeSet time t) 11 → f ≡ outIn t time a r
+  over true f c n g = absurd (omega (arith, n, ap (λ (u : OffStep). u .code) (six c)))
+  over false f c n g =
+      let no : fitsOff sent ≡ false = over-off (fitsOff sent) sent d (sym (ap (λ (u : OffStep). u .code) (free c)) ∙ n) in
+      refused-is t (timeSet time t) time a 11 r f (roomedOff false time (abs t) sent) (reply-free false c no) g (λ j. refusedBy (set-form time t w j) 11)
+
+  rejected : (b : Bool) (n : ℕ) (f : Found) → isSet (r .hascumulative) ≡ b → (s .code ≡ 11 → ⊥) → (s .code ≡ 0 → ⊥) → n ≡ cond (ltb k (t .offcount)) (t .offcount) (t .offcount + 1)
+      → f ≡ refusedBy (storeOff (timeSet time t) n k (s .channel)) (s .code) → f ≡ outIn t time a r
+  rejected true n f c y x nq g =
+      let tb = stored n (offFor a (abs t)) (off-at-address a (abs t .protocol)) nq (ap (λ (u : OffStep). u .channel) (six c)) in
+      let cd : s .code ≡ 6 = ap (λ (u : OffStep). u .code) (six c) in
+      refused-is t (storeOff (timeSet time t) n k (s .channel)) time a (s .code) r f (record { answer = calls.refused cumulativeOff; state = offPut time (abs t) (offFor a (abs t)) }) (reply-six c) g (λ j. refusedBy (tb j) (cd j))
+  rejected false n f c y x nq g =
+      let st = free c in
+      let yes : fitsOff sent ≡ true = roomy-off (fitsOff sent) sent d (λ i. y (ap (λ (u : OffStep). u .code) st ∙ i)) in
+      absurd (x (ap (λ (u : OffStep). u .code) st ∙ ap (λ (b : Bool). roomOff b sent d .code) yes))
+
+  granted-off : (b : Bool) (n : ℕ) (v : View) → isSet (r .hascumulative) ≡ b → s .code ≡ 0 → n ≡ cond (ltb k (t .offcount)) (t .offcount) (t .offcount + 1) → v ≡ model.offView (absOff (s .channel))
+      → _≡_ {A = Found} (record { table = storeOff (timeSet time t) n k (s .channel); code = 0; view = v }) (outIn t time a r)
+  unfolding outIn
+  granted-off true n v c x nq vq = absurd (omega (arith, x, ap (λ (u : OffStep). u .code) (six c)))
+  granted-off false n v c x nq vq =
+      let st = free c in
+      let code : roomOff (fitsOff sent) sent d .code ≡ 0 = sym (ap (λ (u : OffStep). u .code) st) ∙ x in
+      let yes : fitsOff sent ≡ true = roomy-off (fitsOff sent) sent d (λ i. omega (arith, i, code)) in
+      let ch : s .channel ≡ reprOff sent = ap (λ (u : OffStep). u .channel) st ∙ ap (λ (b : Bool). roomOff b sent d .channel) yes in
+      let vw : v ≡ model.offView sent = vq ∙ ap (λ (u : OffChannel). model.offView (absOff u)) ch ∙ ap (λ (u : model.OffChannel). model.offView u) (abs-repr-off sent yes) in
+      let tb = stored n sent (off-at-address a (abs t .protocol)) nq ch in
+      (λ j. record { table = tb j; code = 0; view = vw j }) ∙ ap (λ (u : Reply). foundOf (tableReply u)) (sym (reply-free true c yes))
+
+pub out-off-over : (t : Table) (time a k : ℕ) (r : Record) (z d : OffChannel) (s : OffStep) (f : Found) → Wf t → wellMade r ≡ true → t .latest ≤ time → (r .on ≡ 1 → ⊥)
+    → k ≡ placeOff a (abs t) → k < 4 → d ≡ cond (ltb k (t .offcount)) (getD (t .offs) k z) (reprOff (model.newOff a))
+    → s ≡ stepOff (forwardOff (isSet (r .hascumulative)) time r (absOff d)) d → s .code ≡ 11
+    → f ≡ refusedBy (timeSet time t) 11 → f ≡ outIn t time a r
+out-off-over t time a k r z d s f w m l o e h q p c g = over t time a k r z d s w m l o e h q p (isSet (r .hascumulative)) f refl c g
+
+pub out-off-rejected : (t : Table) (time a k n : ℕ) (r : Record) (z d : OffChannel) (s : OffStep) (f : Found) → Wf t → wellMade r ≡ true → t .latest ≤ time → (r .on ≡ 1 → ⊥)
+    → k ≡ placeOff a (abs t) → k < 4 → d ≡ cond (ltb k (t .offcount)) (getD (t .offs) k z) (reprOff (model.newOff a))
+    → s ≡ stepOff (forwardOff (isSet (r .hascumulative)) time r (absOff d)) d → (s .code ≡ 11 → ⊥) → (s .code ≡ 0 → ⊥)
+    → n ≡ cond (ltb k (t .offcount)) (t .offcount) (t .offcount + 1)
+    → f ≡ refusedBy (storeOff (timeSet time t) n k (s .channel)) (s .code) → f ≡ outIn t time a r
+out-off-rejected t time a k n r z d s f w m l o e h q p y x nq g = rejected t time a k r z d s w m l o e h q p (isSet (r .hascumulative)) n f refl y x nq g
+
+pub out-off-granted : (t : Table) (time a k n : ℕ) (r : Record) (z d : OffChannel) (s : OffStep) (v : View) → Wf t → wellMade r ≡ true → t .latest ≤ time → (r .on ≡ 1 → ⊥)
+    → k ≡ placeOff a (abs t) → k < 4 → d ≡ cond (ltb k (t .offcount)) (getD (t .offs) k z) (reprOff (model.newOff a))
+    → s ≡ stepOff (forwardOff (isSet (r .hascumulative)) time r (absOff d)) d → s .code ≡ 0
+    → n ≡ cond (ltb k (t .offcount)) (t .offcount) (t .offcount + 1) → v ≡ model.offView (absOff (s .channel))
+    → _≡_ {A = Found} (record { table = storeOff (timeSet time t) n k (s .channel); code = 0; view = v }) (outIn t time a r)
+out-off-granted t time a k n r z d s v w m l o e h q p c nq vq = granted-off t time a k r z d s w m l o e h q p (isSet (r .hascumulative)) n v refl c nq vq
+
+-- ---- the whole call: 1, 2, 3, and the rest
+
+pub record-tested : (r : Record) (b : Bool) → b ≡ wellMade r → not b ≡ false → wellMade r ≡ true
+record-tested r b e h = sym e ∙ not-false b h
+
+pub out-unformed : (t : Table) (time a : ℕ) (r : Record) (b : Bool) (f : Found) → b ≡ wfb t → not b ≡ true → f ≡ refusedBy t 1 → f ≡ acceptedOut t time a r
+unfolding acceptedOut
+out-unformed t time a r b f e h q = q ∙ ap (λ (o : Outcome). foundOf o) (sym (called-refused (calls.acceptOut time a r) t (sym e ∙ not-true b h)))
+
+out-formed : (t : Table) (time a : ℕ) (r : Record) (b : Bool) → b ≡ wfb t → not b ≡ false → outIn t time a r ≡ acceptedOut t time a r
+unfolding acceptedOut outIn reply
+out-formed t time a r b e h = ap (λ (o : Outcome). foundOf o) (sym (called-granted (calls.acceptOut time a r) t (sym e ∙ not-false b h)))
+
+pub out-bad : (t : Table) (time a : ℕ) (r : Record) (b m : Bool) (f : Found) → b ≡ wfb t → not b ≡ false → m ≡ wellMade r → not m ≡ true → f ≡ refusedBy t 2 → f ≡ acceptedOut t time a r
+out-bad t time a r b m f e h y n q =
+    refused-is t t time a 2 r f (record { answer = calls.refused outOfRange; state = abs t }) (out-malformed time a r (abs t) (sym y ∙ not-true m n)) q (λ j. refusedBy (tested t b e h .form j) 2)
+    ∙ out-formed t time a r b e h
+
+pub out-before : (t : Table) (time a : ℕ) (r : Record) (b m : Bool) (f : Found) → b ≡ wfb t → not b ≡ false → m ≡ wellMade r → not m ≡ false → time < t .latest → f ≡ refusedBy t 3 → f ≡ acceptedOut t time a r
+unfolding abs
+out-before t time a r b m f e h y n l q =
+    refused-is t t time a 3 r f (record { answer = calls.refused timeBelow; state = abs t }) (out-late time a r (abs t) (sym y ∙ not-false m n) (lt-leb (t .latest) time l)) q (λ j. refusedBy (tested t b e h .form j) 3)
+    ∙ out-formed t time a r b e h
+
+pub out-found : (t : Table) (time a : ℕ) (r : Record) (b : Bool) (f : Found) → b ≡ wfb t → not b ≡ false → f ≡ outIn t time a r → f ≡ acceptedOut t time a r
+out-found t time a r b f e h q = q ∙ out-formed t time a r b e h
