@@ -1,4 +1,5 @@
--- Serial number arithmetic, written from RFC 1982 alone, with SERIAL_BITS at 28. Nothing here comes from the Rust, or from Num.
+-- Serial number arithmetic as RFC 1982 has it, with SERIAL_BITS at 28. Its sentences are quoted from memory, with no copy of the RFC at
+-- hand: hold them to its text. Nothing here comes from the Rust, or from Num.
 -- Assumes nothing.
 use mathlib.Core.Path.{_≡_}
 use mathlib.Core.Logic.{_⊎_}
