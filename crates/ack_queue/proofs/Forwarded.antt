@@ -12,8 +12,10 @@ use lib.Seq.{take-all}
 use Rattle.lists.specs.Pad.{pad}
 use Rattle.lists.specs.Find.{position, keepBy, swapRemove, swapAt, swapRemoveFirst, slotOf}
 use Rattle.lists.proofs.Pad.{getD-pad}
-use Rattle.lists.proofs.Kept.{length-keep}
-use Rattle.lists.proofs.Outl.{drop-more, position-slot, position-none, swap-pad, length-swap, keep-yes, keep-no}
+use Rattle.lists.proofs.Find.{length-keep}
+use Rattle.lists.proofs.Positions.{drop-more, position-slot, position-none}
+use Rattle.lists.proofs.Looking.{keep-yes, keep-no}
+use Rattle.lists.proofs.Copies.{swap-pad, length-swap}
 use Rattle.seq.specs.declared.Order.{Order}
 use Rattle.seq.specs.declared.Order.the-variants.{Less, Equal, Greater}
 use Rattle.seq.specs.Num.{cmp}

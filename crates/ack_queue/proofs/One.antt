@@ -13,9 +13,10 @@ use lib.ListN.{length, getD, set, take, drop, length-take, drop-of-length-le}
 use Rattle.lists.specs.Pad.{removeAt}
 use Rattle.lists.specs.Find.{has, removeFirst, slotOf}
 use Rattle.lists.proofs.Pad.{Shifting, shifting-start, shifting-step, shifting-end, removeAt-out, length-removeAt}
-use Rattle.lists.proofs.Outl.{drop-more, Finding, finding-start, finding-hit, finding-miss, finding-end, remove-slot}
+use Rattle.lists.proofs.Find.{length-remove}
 use Rattle.lists.proofs.Slot.{has-of-slot, absent-of-slot}
-use Rattle.lists.proofs.Kept.{length-remove}
+use Rattle.lists.proofs.Positions.{drop-more, remove-slot}
+use Rattle.lists.proofs.Looking.{Finding, finding-start, finding-hit, finding-miss, finding-end}
 use Rattle.model.specs.Acks.{is, takeWritten}
 use Rattle.ack_queue.specs.declared.AckQueue.{AckQueue}
 use Rattle.ack_queue.specs.declared.Taken.{Taken}

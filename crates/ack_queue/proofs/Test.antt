@@ -11,7 +11,8 @@ use lib.ListN.{length, drop}
 use lib.Seq.{length-take-le}
 use Rattle.lists.specs.Pad.{pad, allb}
 use Rattle.lists.proofs.Pad.{and-left, and-right, pad-of-tail, tail-of-pad}
-use Rattle.lists.proofs.Outl.{pick-is, Testing, testing-start, testing-end}
+use Rattle.lists.proofs.Tests.{pick-is}
+use Rattle.lists.proofs.Looking.{Testing, testing-start, testing-end}
 use Rattle.seq.specs.Num.{legal}
 use Rattle.model.specs.Acks.{is}
 use Rattle.ack_queue.specs.declared.AckQueue.{AckQueue}

@@ -24,7 +24,7 @@ use Rattle.model.specs.Calls as calls
 use Rattle.model.specs.Calls.{Call, Answer, refused, delivered, undelivered, found, noBundle, bundle, prepared, done, resends, held, prefixIs, flat}
 use Rattle.model.specs.Port as port
 use Rattle.model.specs.Port.{Reply, Result, takes, refuses, Recorded, untimed, timed, refuse, grant, refuseRecord, recordStages, outStages, recordStep, play, count, lastResult, lastMade, deliveryMade, deliveryAnswer, onTime, reply}
-use Rattle.agreement.specs.Effects.{among, stagesOf, numbersOf, numbersOfRecord, Refused, RecordRefused, Effects}
+use Rattle.agreement.specs.Effects.{among, stagesOf, numbersOf, numbersOfRecord, Refused, RecordRefused, CallEffects, RecordEffects, AlwaysEffects, Effects}
 use Rattle.agreement.proofs.Rejections.{Leaves, ownRecord, ownOut, record-outcome, out-outcome}
 
 -- ---- numbers of refusals
@@ -475,17 +475,12 @@ at-record a r s beyondGroup h = refl
 at-record a r s overLimit h = refl
 at-record a r s listTooShort h = absurd (false≢true h)
 
-pub effects : Effects
-unfolding has allb reply port.acceptS port.acceptOutS port.prepareS port.takeResendsS
-effects =
+of-calls : CallEffects
+unfolding has allb
+of-calls =
     record {
       calls = call-effect;
       call-numbers = λ e s x h. regular e s x h .1;
-      records = record-effect;
-      record-numbers = λ t a r s x h. record-regular t a r s x h .1;
-      deliveries = λ t a rs s x n e h. whole t a rs s x n (deliveryMade rs) (onTime t s) refl e h;
-      last-records = λ t a qs r s x n e h. own-record t a qs r s x n (deliveryMade (qs ++ (r ∷ []))) (onTime t s) e h;
-      delivery-numbers = λ t a rs s x n e. numbers t a rs s x n (deliveryMade rs) (onTime t s) refl e;
       not-well-formed = λ e s. refl;
       finds = λ k s x h. call-effect (calls.channel k) s x h ∙ stage-untimed (changes x) s;
       next-bundles = λ k l s x h. call-effect (calls.nextBundle k l) s x h ∙ stage-untimed (changes x) s;
@@ -495,10 +490,27 @@ effects =
       sends-time = λ t k reliable hs s x h m. call-effect (calls.prepare t k reliable hs) s x h ∙ at-time (13 ∷ 11 ∷ []) refl (timed t s) x m;
       resends-time = λ t timeout giveUp l s x h m. call-effect (calls.takeResends t timeout giveUp l) s x h ∙ at-time (12 ∷ []) refl (timed t s) x m;
       forwards-6 = λ t a r s h. call-effect (calls.acceptOut t a r) s cumulativeOff h;
+    }
+
+of-records : RecordEffects
+unfolding reply port.acceptS
+of-records =
+    record {
+      records = record-effect;
+      record-numbers = λ t a r s x h. record-regular t a r s x h .1;
+      deliveries = λ t a rs s x n e h. whole t a rs s x n (deliveryMade rs) (onTime t s) refl e h;
+      last-records = λ t a qs r s x n e h. own-record t a qs r s x n (deliveryMade (qs ++ (r ∷ []))) (onTime t s) e h;
+      delivery-numbers = λ t a rs s x n e. numbers t a rs s x n (deliveryMade rs) (onTime t s) refl e;
       record-nothing = λ t a r s x h m. record-effect t a r s x h ∙ at-record a r s x m;
       record-5 = λ t a r s h. record-effect t a r s oldVersion h;
       record-6 = λ t a r s h. record-effect t a r s cumulativeOff h;
       record-7-8-9 = λ t a r s x h m. record-effect t a r s x h ∙ left-acks (recordStages a r s) x m;
+    }
+
+always : AlwaysEffects
+unfolding reply port.acceptS port.acceptOutS port.prepareS port.takeResendsS
+always =
+    record {
       delivery-sets-time = λ t a rs s m o. rw (m, o) (play-latest t a rs (withTime t s));
       forward-sets-time = λ t a r s m o. rw (m, o) (out-latest t a r s (port.hasPlace (isSet (r .on)) a (indexOf r) (s .protocol)));
       send-sets-time = λ t k reliable hs s m o. rw (m, o) (send-latest t k (isSet reliable) hs s (rust.hasKey k (s .protocol)));
@@ -506,3 +518,6 @@ effects =
       lent-lists = λ x l. refl;
       lent-lists-delivery = λ x n l. refl;
     }
+
+pub effects : Effects
+effects = record { of-calls = of-calls; of-records = of-records; always = always }

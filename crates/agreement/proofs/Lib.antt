@@ -3,3 +3,4 @@ pub mod Channels
 pub mod Rejections
 pub mod Agreement
 pub mod Effects
+pub mod When

@@ -60,22 +60,11 @@ Refused e s x = reply e s .answer ≡ refused x
 abbrev pub RecordRefused : ℕ → ℕ → Record → State → Refusal → Type 0
 RecordRefused t a r s x = recordStep t a r s .result ≡ refuses x
 
-pub record Effects : Type 0 where
+-- every call
+pub record CallEffects : Type 0 where
   -- every call but a delivery: the row of its refusal, among its own states on the way
   pub calls : (e : Call) (s : State) (x : Refusal) → Refused e s x → reply e s .state ≡ left x (stagesOf e s)
   pub call-numbers : (e : Call) (s : State) (x : Refusal) → Refused e s x → among (numbersOf e) x ≡ true
-  -- every record of a delivery: the row of its refusal, from the state that the earlier records left
-  pub records : (t a : ℕ) (r : Record) (s : State) (x : Refusal) → RecordRefused t a r s x → recordStep t a r s .state ≡ left x (recordStages a r s)
-  pub record-numbers : (t a : ℕ) (r : Record) (s : State) (x : Refusal) → RecordRefused t a r s x → among (numbersOfRecord (wellMade r)) x ≡ true
-  -- a delivery refused by 2 or 3: "changes nothing", and the count is 0
-  pub deliveries : (t a : ℕ) (rs : List Record) (s : State) (x : Refusal) (n : ℕ) → reply (accept t a rs) s .answer ≡ undelivered x n → among (2 ∷ 3 ∷ []) x ≡ true → (reply (accept t a rs) s .state ≡ s) × (n ≡ 0)
-  -- "From refusal 4 on, what a refusal leaves is said of its own record; what earlier records did stays": the last record is refused
-  pub last-records :
-      (t a : ℕ) (qs : List Record) (r : Record) (s : State) (x : Refusal) (n : ℕ) →
-      reply (accept t a (qs ++ (r ∷ []))) s .answer ≡ undelivered x n →
-      among (2 ∷ 3 ∷ []) x ≡ false →
-      reply (accept t a (qs ++ (r ∷ []))) s .state ≡ left x (recordStages a r (play t a qs (withTime t s) .state))
-  pub delivery-numbers : (t a : ℕ) (rs : List Record) (s : State) (x : Refusal) (n : ℕ) → reply (accept t a rs) s .answer ≡ undelivered x n → among (numbersOf (accept t a rs)) x ≡ true
   -- 1: "table not well formed", nothing
   pub not-well-formed : (e : Call) (s : State) → replyIf false e s .state ≡ s
   -- "Untimed calls change nothing on refusal"
@@ -90,6 +79,21 @@ pub record Effects : Type 0 where
   pub resends-time : (t timeout giveUp : ℕ) (l : List ℕ) (s : State) (x : Refusal) → Refused (takeResends t timeout giveUp l) s x → among (12 ∷ []) x ≡ true → reply (takeResends t timeout giveUp l) s .state ≡ withTime t s
   -- 6 of forwarded out: the time, and the channel found or made; no prefix
   pub forwards-6 : (t a : ℕ) (r : Record) (s : State) → Refused (acceptOut t a r) s cumulativeOff → reply (acceptOut t a r) s .state ≡ withProtocol (recordChannel (isSet (r .on)) a r (s .protocol)) (withTime t s)
+
+-- deliveries and their records
+pub record RecordEffects : Type 0 where
+  -- every record of a delivery: the row of its refusal, from the state that the earlier records left
+  pub records : (t a : ℕ) (r : Record) (s : State) (x : Refusal) → RecordRefused t a r s x → recordStep t a r s .state ≡ left x (recordStages a r s)
+  pub record-numbers : (t a : ℕ) (r : Record) (s : State) (x : Refusal) → RecordRefused t a r s x → among (numbersOfRecord (wellMade r)) x ≡ true
+  -- a delivery refused by 2 or 3: "changes nothing", and the count is 0
+  pub deliveries : (t a : ℕ) (rs : List Record) (s : State) (x : Refusal) (n : ℕ) → reply (accept t a rs) s .answer ≡ undelivered x n → among (2 ∷ 3 ∷ []) x ≡ true → (reply (accept t a rs) s .state ≡ s) × (n ≡ 0)
+  -- "From refusal 4 on, what a refusal leaves is said of its own record; what earlier records did stays": the last record is refused
+  pub last-records :
+      (t a : ℕ) (qs : List Record) (r : Record) (s : State) (x : Refusal) (n : ℕ) →
+      reply (accept t a (qs ++ (r ∷ []))) s .answer ≡ undelivered x n →
+      among (2 ∷ 3 ∷ []) x ≡ false →
+      reply (accept t a (qs ++ (r ∷ []))) s .state ≡ left x (recordStages a r (play t a qs (withTime t s) .state))
+  pub delivery-numbers : (t a : ℕ) (rs : List Record) (s : State) (x : Refusal) (n : ℕ) → reply (accept t a rs) s .answer ≡ undelivered x n → among (numbersOf (accept t a rs)) x ≡ true
   -- a record: 2, 4, 10 and 11 leave what the earlier records left
   pub record-nothing : (t a : ℕ) (r : Record) (s : State) (x : Refusal) → RecordRefused t a r s x → among (2 ∷ 4 ∷ 10 ∷ 11 ∷ []) x ≡ true → recordStep t a r s .state ≡ s
   -- 5: the prefix
@@ -98,6 +102,9 @@ pub record Effects : Type 0 where
   pub record-6 : (t a : ℕ) (r : Record) (s : State) → RecordRefused t a r s cumulativeOff → recordStep t a r s .state ≡ withProtocol (recordChannel (isSet (r .on)) a r (withPrefix (r .prefix) (s .protocol))) s
   -- 7, 8, 9: the prefix, and the channel with the acks applied
   pub record-7-8-9 : (t a : ℕ) (r : Record) (s : State) (x : Refusal) → RecordRefused t a r s x → among (7 ∷ 8 ∷ 9 ∷ []) x ≡ true → recordStep t a r s .state ≡ withProtocol (recordAcks (isSet (r .on)) a r (withPrefix (r .prefix) (s .protocol))) s
+
+-- whatever is answered: the time, and lent lists
+pub record AlwaysEffects : Type 0 where
   -- "A timed call past check 3 always sets the latest time": past 2 and 3, whatever it answers
   pub delivery-sets-time : (t a : ℕ) (rs : List Record) (s : State) → deliveryMade rs ≡ true → onTime t s ≡ true → reply (accept t a rs) s .state .latest ≡ t
   pub forward-sets-time : (t a : ℕ) (r : Record) (s : State) → wellMade r ≡ true → onTime t s ≡ true → reply (acceptOut t a r) s .state .latest ≡ t
@@ -106,3 +113,8 @@ pub record Effects : Type 0 where
   -- "A refused call writes nothing to a lent list"
   pub lent-lists : (x : Refusal) (l : List ℕ) → lent (refused x) l ≡ l
   pub lent-lists-delivery : (x : Refusal) (n : ℕ) (l : List ℕ) → lent (undelivered x n) l ≡ l
+
+pub record Effects : Type 0 where
+  pub of-calls : CallEffects
+  pub of-records : RecordEffects
+  pub always : AlwaysEffects

@@ -2,7 +2,7 @@
 use mathlib.Core.Path.{_≡_, refl, sym, ap, _∙_}
 use mathlib.Core.Logic.{_↔_}
 use mathlib.Core.Bool.{Bool, true, false, not, _&&_, _||_, and-false}
-use mathlib.Core.List.{List, [], _∷_, _++_, map, append-assoc}
+use mathlib.Core.List.{List, [], _∷_, _++_, map, append-assoc, map-append}
 use Prim.Native.Nat.{ℕ, zero, suc, _+_, _-_, _*_, _≤_, _<_, zero-le}
 use native.Mathlib.Nat.{le-of-suc-le-suc, not-suc-le-zero, zero-add}
 use native.Mathlib.Omega.{arith}
@@ -12,11 +12,14 @@ use mir.Syntax.{w32, w64}
 use mir.Val.{Fits}
 use lib.Dec.{leb, ltb, eqb}
 use lib.ListN.{length, take, drop, getD, set, length-take, length-drop, length-append, length-map, drop-of-length-le, replicate}
-use lib.Seq.{drop-cons, length-take-le, take-append-seam, drop-append-seam, take-add}
+use lib.Seq.{drop-cons, getD-take, length-take-le, take-append-seam, drop-append-seam, take-add}
 use Rattle.lists.specs.Pad.{pad, allb}
 use Rattle.lists.specs.Find.{joined, has, written}
 use Rattle.lists.proofs.Pad.{length-pad, take-pad, set-pad, pad-of-tail, tail-of-pad, and-left, and-right}
-use Rattle.lists.proofs.Frag.{map-append, joined-one, has-joined, pad-over, take-front, leb-same, Past, Within, Copying, Carrying, Writing, past-step, within-start, within-step, within-end, copying-start, copying-end, carrying-start, carrying-end, writing-start, writing-end}
+use Rattle.lists.proofs.Tests.{leb-same}
+use Rattle.lists.proofs.Joined.{joined-one, has-joined}
+use Rattle.lists.proofs.Looking.{Past, Within, past-step, within-start, within-step, within-end}
+use Rattle.lists.proofs.Copies.{pad-over, take-front, Copying, Carrying, Fronting, copying-start, copying-step, copying-end, carrying-start, carrying-end, fronting-start, fronting-end}
 use Rattle.model.specs.Rust.{isHandle, holdsBundle}
 use Rattle.bundles.specs.declared.Bundles.{Bundles}
 use Rattle.bundles.specs.Bundles.{splitBy, abs, repr, size, Wf, room, front, sum, isZero, sized, bundlesGood}
@@ -168,19 +171,22 @@ push-one b handle w r =
     let l = lengths-push bs x (b .lengths) (b .len) 1 (wf-lengths b w) (wf-len b w) refl (room-len bs 1 r) in
     λ i. record { len = p i; total = q i; lengths = l i; handles = h i }
 
-pub push-start : (b : Bundles) (list : List ℕ) (n : ℕ) → Wf b → n ≤ 64 → room (abs b) n ≡ true → length list ≡ 64 → Copying 64 0 (joined (abs b)) list (b .total) n (b .handles) 0
+pub push-start : (b : Bundles) (list : List ℕ) (n : ℕ) → Wf b → n ≤ 64 → room (abs b) n ≡ true → length list ≡ 64 → Copying 64 0 (joined (abs b)) (take n list) (b .total) n (b .handles) 0
 push-start b list n w h r l =
-    copying-start 64 0 (joined (abs b)) list (b .total) n (b .handles) (wf-total b w) (omega (arith, wf-total b w, room-total (abs b) n r)) (omega arith) (wf-handles b w)
+    copying-start 64 0 (joined (abs b)) (take n list) (b .total) n (b .handles) (wf-total b w) (sym (length-take-le n list (omega arith))) (omega (arith, wf-total b w, room-total (abs b) n r)) (wf-handles b w)
 
-pub push-list : (b : Bundles) (list : List ℕ) (n : ℕ) (h : List ℕ) (i : ℕ) → Wf b → room (abs b) n ≡ true → Copying 64 0 (joined (abs b)) list (b .total) n h i → n ≤ i → _≡_ {A = Bundles} (record { len = b .len + 1; total = b .total + n; lengths = set (b .lengths) (b .len) n; handles = h }) (repr (abs b ++ take n list ∷ []))
+pub push-step : (xs list : List ℕ) (at m : ℕ) (h : List ℕ) (i : ℕ) → Copying 64 0 xs (take m list) at m h i → i < m → Copying 64 0 xs (take m list) at m (set h (at + i) (getD list i 0)) (i + 1)
+push-step xs list at m h i c l = copying-step 64 0 xs (take m list) at m h i (getD list i 0) c l (sym (getD-take m list i 0 l))
+
+pub push-list : (b : Bundles) (list : List ℕ) (n : ℕ) (h : List ℕ) (i : ℕ) → Wf b → room (abs b) n ≡ true → Copying 64 0 (joined (abs b)) (take n list) (b .total) n h i → n ≤ i → _≡_ {A = Bundles} (record { len = b .len + 1; total = b .total + n; lengths = set (b .lengths) (b .len) n; handles = h }) (repr (abs b ++ take n list ∷ []))
 push-list b list n h i w r c e =
     let x = take n list in
     let bs = abs b in
-    let m : length x ≡ n = length-take-le n list (c .enough) in
+    let m : length x ≡ n = sym (c .count) in
     let p = len-push bs x (b .len) (wf-len b w) in
     let q = total-push bs x (b .total) n (wf-total b w) m in
     let l = lengths-push bs x (b .lengths) (b .len) n (wf-lengths b w) (wf-len b w) m (room-len bs n r) in
-    let d : h ≡ pad 64 0 (joined (bs ++ x ∷ [])) = copying-end 64 0 (joined bs) list (b .total) n h i c e ∙ ap (λ (s : List ℕ). pad 64 0 s) (sym (joined-one bs x)) in
+    let d : h ≡ pad 64 0 (joined (bs ++ x ∷ [])) = copying-end 64 0 (joined bs) x (b .total) n h i c e ∙ ap (λ (s : List ℕ). pad 64 0 s) (sym (joined-one bs x)) in
     λ k. record { len = p k; total = q k; lengths = l k; handles = d k }
 
 -- ---- the front
@@ -203,17 +209,17 @@ front-le (x ∷ bs) = omega (arith, length-append x (joined bs))
 pub front-len : (b : Bundles) → Wf b → getD (b .lengths) 0 0 ≡ length (front (abs b))
 front-len b w = front-is (b .lengths) (abs b) (wf-lengths b w)
 
-pub write-start : (b : Bundles) (out : List ℕ) → Wf b → length (front (abs b)) ≤ length out → Writing (b .handles) out 64 (getD (b .lengths) 0 0) out 0
+pub write-start : (b : Bundles) (out : List ℕ) → Wf b → length (front (abs b)) ≤ length out → Fronting (b .handles) out 64 (getD (b .lengths) 0 0) out 0
 write-start b out w h =
-    writing-start (b .handles) out 64 (getD (b .lengths) 0 0) (omega (arith, front-len b w, front-le (abs b), wf-small b w)) (wf-sixtyfour b w) (omega (arith, front-len b w))
+    fronting-start (b .handles) out 64 (getD (b .lengths) 0 0) (omega (arith, front-len b w, front-le (abs b), wf-small b w)) (wf-sixtyfour b w) (omega (arith, front-len b w))
 
-pub write-done : (b : Bundles) (old out : List ℕ) (i : ℕ) → Wf b → Writing (b .handles) old 64 (getD (b .lengths) 0 0) out i → getD (b .lengths) 0 0 ≤ i → out ≡ written (front (abs b)) old
+pub write-done : (b : Bundles) (old out : List ℕ) (i : ℕ) → Wf b → Fronting (b .handles) old 64 (getD (b .lengths) 0 0) out i → getD (b .lengths) 0 0 ≤ i → out ≡ written (front (abs b)) old
 write-done b old out i w c h =
-    writing-end (b .handles) old 64 (getD (b .lengths) 0 0) out i c h
+    fronting-end (b .handles) old 64 (getD (b .lengths) 0 0) out i c h
     ∙ ap (λ (k : ℕ). take k (b .handles) ++ drop k old) (front-len b w)
     ∙ ap (λ (l : List ℕ). l ++ drop (length (front (abs b))) old) (front-taken (b .handles) (abs b) (wf-small b w) (wf-handles b w))
 
-pub write-length : (b : Bundles) (old out : List ℕ) (n i : ℕ) → Writing (b .handles) old 64 n out i → length out ≡ length old
+pub write-length : (b : Bundles) (old out : List ℕ) (n i : ℕ) → Fronting (b .handles) old 64 n out i → length out ≡ length old
 write-length b old out n i c = c .size
 
 -- ---- pop_front

@@ -5,6 +5,7 @@ use mathlib.Core.List.{List, []}
 use Prim.Native.Nat.{ℕ}
 use Rattle.packet.specs.declared.Record.{Record}
 use Rattle.packet.specs.declared.Key.{Key}
+use Rattle.packet.specs.Data.{noRecord}
 use Rattle.model.specs.State as model
 use Rattle.lists.specs.Pad.{pad}
 use Rattle.model.specs.Calls.{Call, accept, acceptOut, channel, nextBundle, prepare, acksWritten, takeResends, holds, lastAcceptedPrefix, resetPrefixOffset, transferPrefixOffset, Answer, lent}
@@ -41,28 +42,6 @@ unfoldable pub called : Call → Table → Outcome
 called e t = calledIf (wfb t) e t
 
 -- ---- lists that are given as an array and a count: past the array's end they go on with zeros, so a count that is too large is a list too long
-
-abbrev pub noRecord : Record
-noRecord =
-    record {
-      handle = 0;
-      prefix = 0;
-      on = 0;
-      indexed = 0;
-      index = 0;
-      version = 0;
-      reliable = 0;
-      number = 0;
-      ranged = 0;
-      first = 0;
-      last = 0;
-      hascumulative = 0;
-      cumulative = 0;
-      haslast = 0;
-      lastreliable = 0;
-      ackcount = 0;
-      acks = pad 8 0 [];
-    }
 
 abbrev pub recordsOf : Batch → List Record
 recordsOf b = pad (b .count) noRecord (b .records)

@@ -11,7 +11,7 @@ use lib.Seq.{drop-cons, getD-take, getD-drop, take-all, length-take-le}
 use borrow.Author.Tests.{lt-ltb, le-ltb, le-leb, lt-leb, eq-eqb, ne-eqb, not-true, not-false}
 use Rattle.lists.specs.Pad.{pad}
 use Rattle.lists.proofs.Pad.{pad-nil, set-pad, length-insertAt}
-use Rattle.lists.proofs.Onch.{insertAt-split, Copying, copying-start, copying-step, copying-end}
+use Rattle.lists.proofs.Copies.{insert-parts, Copying, copying-start, copying-step, copying-end}
 use Rattle.seq.specs.declared.Order.{Order}
 use Rattle.seq.specs.declared.Order.the-variants.{Less, Equal, Greater}
 use Rattle.seq.specs.Num.{add, cmp, dist}
@@ -189,7 +189,7 @@ unfolding insertBuffered
 into b p o e = ap (λ (x : Place). insertedAt x p (Waits.abs b)) (sym e)
 
 length-inserted : (k : ℕ) (p : Packet) (l : List Packet) → length (insertedAt (At k) p l) ≡ suc (length l)
-length-inserted k p l = ap length (sym (insertAt-split k p l)) ∙ length-insertAt k p l
+length-inserted k p l = ap length (sym (insert-parts k p l)) ∙ length-insertAt k p l
 
 inserted-fits : (b : Waiting) (p : Packet) → length (insertBuffered p (Waits.abs b)) ≤ 32 → inserted b p ≡ record { fits = 1; buffer = Waits.repr (insertBuffered p (Waits.abs b)) }
 unfolding inserted

@@ -9,13 +9,13 @@ use borrow.Author.Tests.{ltb-true, ltb-false, le-leb, lt-leb}
 use lib.Dec.{ltb, leb}
 use lib.ListN.{length, take, getD}
 use Rattle.lists.specs.Find.{has, slotOf}
+use Rattle.lists.proofs.Pad.{length-pad}
 use Rattle.lists.proofs.Find.{find-absent}
 use Rattle.lists.proofs.Slot.{slot-le, slot-absent, absent-of-slot}
 use Rattle.model.specs.State as model
 use Rattle.model.specs.Port.{hasPlace}
 use Rattle.kept.proofs.Room.{Fits}
 use Rattle.kept.proofs.Table.{well-facts}
-use Rattle.lists.proofs.Pad.{length-pad}
 use Rattle.channel.specs.declared.OffChannel.{OffChannel}
 use Rattle.channel.specs.declared.OnChannel.{OnChannel}
 use Rattle.channel.specs.Channel.{reprOff, reprOn}

@@ -1,7 +1,7 @@
 -- All groups of a channel: what a well-formed Groups has, and what its functions owe. Assumes nothing.
 use mathlib.Core.Path.{_≡_, refl, sym, ap, _∙_}
 use mathlib.Core.Bool.{Bool, true, false, _&&_, _||_}
-use mathlib.Core.List.{List, [], _∷_, _++_, map}
+use mathlib.Core.List.{List, [], _∷_, _++_, map, map-append}
 use Prim.Native.Nat.{ℕ, _+_, _-_, _≤_, _<_, zero-le}
 use native.Mathlib.Omega.{arith}
 use borrow.Author.Tests.{le-leb, eq-eqb, ne-eqb}
@@ -13,7 +13,11 @@ use lib.Seq.{getD-take}
 use Rattle.lists.specs.Pad.{pad, removeAt, allb}
 use Rattle.lists.specs.Find.{has, position}
 use Rattle.lists.proofs.Pad.{length-pad, length-removeAt, getD-default, getD-pad, take-pad, set-pad, length-mix, Shifting, shifting-start, shifting-step, shifting-end}
-use Rattle.lists.proofs.Frag.{has-map, map-append, map-set, map-removeAt, set-pad-in, shifted, position-start, position-hit, position-miss, position-end, Within, within-start, within-step, within-end, allb-all}
+use Rattle.lists.proofs.Tests.{allb-all}
+use Rattle.lists.proofs.Maps.{has-map, map-set, map-removeAt}
+use Rattle.lists.proofs.Positions.{shifted, position-start, position-hit, position-miss, position-end}
+use Rattle.lists.proofs.Looking.{Within, within-start, within-step, within-end}
+use Rattle.lists.proofs.Copies.{pad-set}
 use Rattle.model.specs.State.{Group}
 use Rattle.model.specs.Group.{newGroup, isFirst}
 use Rattle.model.specs.Room.{fitsGroup}
@@ -139,7 +143,7 @@ put-done gs i g w h v =
     let n : length (map reprG l) ≡ length l = length-map l reprG in
     let k : gs .len ≡ length (set l i (absG g)) = wf-len gs w ∙ sym (length-set l i (absG g)) in
     let s : set (gs .groups) i g ≡ pad 4 zeroGroup (map reprG (set l i (absG g))) =
-    (λ j. set (wf-groups gs w j) i (v j)) ∙ set-pad-in 4 zeroGroup (map reprG l) i (reprG (absG g)) (omega (arith, wf-len gs w)) ∙ ap (λ (r : List Fragments). pad 4 zeroGroup r) (sym (map-set reprG l i (absG g))) in
+    (λ j. set (wf-groups gs w j) i (v j)) ∙ pad-set 4 zeroGroup (map reprG l) i (reprG (absG g)) (omega (arith, wf-len gs w)) ∙ ap (λ (r : List Fragments). pad 4 zeroGroup r) (sym (map-set reprG l i (absG g))) in
     λ j. record { len = k j; groups = s j }
 
 pub remove-start : (gs : Groups) (i : ℕ) → Wf gs → i < gs .len → Shifting 4 zeroGroup (map reprG (abs gs)) i (gs .len) (gs .groups) i

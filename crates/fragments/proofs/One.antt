@@ -15,7 +15,9 @@ use lib.Seq.{take-all}
 use Rattle.lists.specs.Pad.{pad}
 use Rattle.lists.specs.Find.{has}
 use Rattle.lists.proofs.Pad.{length-pad, getD-pad}
-use Rattle.lists.proofs.Frag.{map-set, pad-same, set-pad-in, pad-more, Writing, writing-start, writing-end, Within, within-start, within-step, within-end}
+use Rattle.lists.proofs.Maps.{map-set, pad-same}
+use Rattle.lists.proofs.Looking.{Within, within-start, within-step, within-end}
+use Rattle.lists.proofs.Copies.{pad-set, pad-more, Fronting, fronting-start, fronting-end}
 use Rattle.model.specs.State.{Group}
 use Rattle.model.specs.Group.{filled, full, inPlaces, store, stale, newGroup}
 use Rattle.model.specs.Rust.{holdsPlace}
@@ -174,12 +176,12 @@ module _ (g : Fragments) (k : ℕ) (w : WfG g) (l : k < g .len) where
   marks-set : (x : ℕ) → set (g .marks) k 1 ≡ pad 32 0 (map markOf (set (absG g .places) k (some x)))
   marks-set x =
       let ps = absG g .places in
-      ap (λ (r : List ℕ). set r k 1) (g-marks g w) ∙ set-pad-in 32 0 (map markOf ps) k 1 (omega (arith, length-map ps markOf, inside)) ∙ ap (λ (r : List ℕ). pad 32 0 r) (sym (map-set markOf ps k (some x)))
+      ap (λ (r : List ℕ). set r k 1) (g-marks g w) ∙ pad-set 32 0 (map markOf ps) k 1 (omega (arith, length-map ps markOf, inside)) ∙ ap (λ (r : List ℕ). pad 32 0 r) (sym (map-set markOf ps k (some x)))
 
   handles-set : (x : ℕ) → set (g .handles) k x ≡ pad 32 0 (map handleOf (set (absG g .places) k (some x)))
   handles-set x =
       let ps = absG g .places in
-      ap (λ (r : List ℕ). set r k x) (g-handles g w) ∙ set-pad-in 32 0 (map handleOf ps) k x (omega (arith, length-map ps handleOf, inside)) ∙ ap (λ (r : List ℕ). pad 32 0 r) (sym (map-set handleOf ps k (some x)))
+      ap (λ (r : List ℕ). set r k x) (g-handles g w) ∙ pad-set 32 0 (map handleOf ps) k x (omega (arith, length-map ps handleOf, inside)) ∙ ap (λ (r : List ℕ). pad 32 0 r) (sym (map-set handleOf ps k (some x)))
 
   pub set-empty : (x t : ℕ) → getD (g .marks) k 0 ≡ 0 → _≡_ {A = Fragments} (record { updated = t; first = g .first; len = g .len; count = g .count + 1; marks = set (g .marks) k 1; handles = set (g .handles) k x }) (reprG (store k x t (absG g)))
   set-empty x t m =
@@ -222,16 +224,16 @@ full-is g w = let c = g-count g w in let n = g-len g w in λ i. eqb (c i) (n i)
 
 -- ---- into_bundle
 
-pub bundle-start : (g : Fragments) → WfG g → Writing (g .handles) (replicate 64 0) 32 32 (replicate 64 0) 0
-bundle-start g w = writing-start (g .handles) (replicate 64 0) 32 32 (omega arith) (g-32h g w) (omega (arith, length-replicate {A = ℕ} 64 0))
+pub bundle-start : (g : Fragments) → WfG g → Fronting (g .handles) (replicate 64 0) 32 32 (replicate 64 0) 0
+bundle-start g w = fronting-start (g .handles) (replicate 64 0) 32 32 (omega arith) (g-32h g w) (omega (arith, length-replicate {A = ℕ} 64 0))
 
-pub bundle-done : (g : Fragments) (r : List ℕ) (i : ℕ) → WfG g → full (absG g) ≡ true → Writing (g .handles) (replicate 64 0) 32 32 r i → 32 ≤ i → r ≡ pad 64 0 (inPlaces (absG g .places))
+pub bundle-done : (g : Fragments) (r : List ℕ) (i : ℕ) → WfG g → full (absG g) ≡ true → Fronting (g .handles) (replicate 64 0) 32 32 r i → 32 ≤ i → r ≡ pad 64 0 (inPlaces (absG g .places))
 unfolding pad
 bundle-done g r i w f c h =
     let ps = absG g .places in
     let e : filled ps ≡ length ps = eqb-true (filled ps) (length ps) f in
     let t : take 32 (g .handles) ≡ pad 32 0 (map handleOf ps) = take-all 32 (g .handles) (omega (arith, g-32h g w)) ∙ g-handles g w in
-    writing-end (g .handles) (replicate 64 0) 32 32 r i c h
+    fronting-end (g .handles) (replicate 64 0) 32 32 r i c h
     ∙ ap (λ (l : List ℕ). l ++ drop 32 (replicate 64 0)) t
     ∙ pad-more 32 32 0 (map handleOf ps) (omega (arith, length-map ps handleOf, g-few g w))
     ∙ ap (λ (l : List ℕ). pad 64 0 l) (sym (full-inPlaces ps e))

@@ -14,8 +14,10 @@ use lib.ListN.{length, take, getD, set, replicate, length-set, length-append, le
 use Rattle.lists.specs.Pad.{pad, removeAt, allb}
 use Rattle.lists.specs.Find.{joined, has, position, findBy, putBy, removeFirst}
 use Rattle.lists.proofs.Pad.{take-pad, and-left, and-right}
-use Rattle.lists.proofs.Find.{find-absent}
-use Rattle.lists.proofs.Frag.{joined-one, Stands, stands, none-stands, allb-set, allb-removeAt, allb-one, length-removeAt-le}
+use Rattle.lists.proofs.Find.{find-absent, length-removeAt-le}
+use Rattle.lists.proofs.Tests.{allb-set, allb-removeAt, allb-one}
+use Rattle.lists.proofs.Joined.{joined-one}
+use Rattle.lists.proofs.Positions.{Stands, stands, none-stands}
 use Rattle.seq.specs.Num.{dist}
 use Rattle.packet.specs.declared.Packet.{Packet}
 use Rattle.packet.specs.declared.OutEntry.{OutEntry}
@@ -169,7 +171,7 @@ module _ (gs : Groups) (b : Bundles) (p : Packet) (t : ℕ) (w : Wf gs) (v : B.W
         let d : putBy (isFirst (getD (abs gs) i noGroup .first)) x (abs gs) ≡ set (abs gs) i x = ap (λ (y : ℕ). putBy (isFirst y) x (abs gs)) first-is ∙ s .is-put x in
         near-is q f false e
         ∙ ap (λ (l : List Group). answer (done (dataOf l (B.abs b))) gs b) d
-        ∙ ap (λ (y : Bool). within y (dataOf (set (abs gs) i x) (B.abs b)) gs b) (fits-keep (set (abs gs) i x) (B.abs b) (omega (arith, length-set (abs gs) i x, wf-few gs w)) (allb-set fitsGroup (abs gs) i x (all-fit gs w) (le-leb (length (x .places)) 32 places-few)) (BM.wf-few b v) (BM.wf-small b v))
+        ∙ ap (λ (y : Bool). within y (dataOf (set (abs gs) i x) (B.abs b)) gs b) (fits-keep (set (abs gs) i x) (B.abs b) (omega (arith, length-set (abs gs) i x, wf-few gs w)) (allb-set fitsGroup (abs gs) i x (le-leb (length (x .places)) 32 places-few) (all-fit gs w)) (BM.wf-few b v) (BM.wf-small b v))
         ∙ (λ j. record { code = 0; groups = repr (set (abs gs) i x); bundles = sym v j })
 
     code-within : (x : Bool) (d : OffData) → within x d gs b .code ≡ codeIf x

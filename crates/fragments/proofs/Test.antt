@@ -14,7 +14,10 @@ use lib.Seq.{length-take-le, getD-take, drop-nil}
 use Rattle.lists.specs.Pad.{pad, allb}
 use Rattle.lists.specs.Find.{has}
 use Rattle.lists.proofs.Pad.{pad-of-tail, tail-of-pad, and-left, and-right}
-use Rattle.lists.proofs.Frag.{drop-here, past-turn, allb-map, allb-all, allb-at, map-kept, Both, both-hit, both-step}
+use Rattle.lists.proofs.Tests.{allb-all, allb-getD}
+use Rattle.lists.proofs.Maps.{allb-map, map-kept}
+use Rattle.lists.proofs.Positions.{drop-here}
+use Rattle.lists.proofs.Looking.{past-turn, Both, both-hit, both-step}
 use Rattle.seq.specs.Num.{legal}
 use Rattle.model.specs.Group.{filled}
 use Rattle.model.specs.Wellformed.{distinct, sameFirst, groupGood}
@@ -344,7 +347,7 @@ wf-good latest gs w g d =
     let at : (i : ℕ) → i < length u → usedGood latest (getD u i outside) ≡ true = λ i m.
     let k = getD-take (gs .len) (gs .groups) i outside (omega arith) in
     let x : fragmentsGood (getD u i outside) ≡ true = ap fragmentsGood k ∙ wfg-good (getD (gs .groups) i outside) (wfg-at gs w i (omega arith)) in
-    let y = allb-at (goodAt latest) outside u i h m in
+    let y = allb-getD (goodAt latest) outside u i m h in
     (λ j. x j && y j) in
     let c : allb (usedGood latest) u ≡ true = allb-all (usedGood latest) outside u at in
     let m : length (map reprG (abs gs)) ≡ length (abs gs) = length-map (abs gs) reprG in

@@ -9,7 +9,8 @@ use borrow.Author.Needs.{needs}
 use lib.ListN.{length, take, getD}
 use Rattle.lists.specs.Find.{has}
 use Rattle.lists.proofs.Pad.{length-of-map}
-use Rattle.lists.proofs.Hand.{has-map, Asking, asking-start, asking-hit, asking-step, asking-end}
+use Rattle.lists.proofs.Maps.{has-map}
+use Rattle.lists.proofs.Looking.{Asking, asking-start, asking-hit, asking-step, asking-end}
 use Rattle.model.specs.Rust as rust
 use Rattle.model.specs.Rust.{holdsOff, holdsOn}
 use Rattle.model.specs.Calls.{holds}
@@ -35,10 +36,10 @@ abbrev pub onHolds : ℕ → OnChannel → Bool
 onHolds h c = holdsOn h (absOn c)
 
 offs-map : (h : ℕ) (l : List OffChannel) → has (offHolds h) l ≡ has (holdsOff h) (map absOff l)
-offs-map h l = sym (has-map absOff (holdsOff h) (offHolds h) l (λ c. refl))
+offs-map h l = sym (has-map (holdsOff h) absOff l)
 
 ons-map : (h : ℕ) (l : List OnChannel) → has (onHolds h) l ≡ has (holdsOn h) (map absOn l)
-ons-map h l = sym (has-map absOn (holdsOn h) (onHolds h) l (λ c. refl))
+ons-map h l = sym (has-map (holdsOn h) absOn l)
 
 pub off-in-form : (l : List OffChannel) (n i : ℕ) (d : OffChannel) → OffsWf l n → i < n → WfOff (getD l i d)
 off-in-form l n i d w h = w .each i d h

@@ -12,8 +12,9 @@ use borrow.Author.Tests.{leb-true, le-leb, eqb-true, eq-eqb}
 use Rattle.lists.specs.Pad.{allb}
 use Rattle.lists.specs.Find.{has, putBy, removeFirst, swapRemoveFirst}
 use Rattle.lists.proofs.Pad.{and-left, and-right}
-use Rattle.lists.proofs.Find.{allb-put, put-new}
-use Rattle.lists.proofs.Kept.{and-both, and-4, and-5, allb-tail, allb-none, allb-cons, allb-snoc, allb-weaken, allb-append, allb-take, allb-drop, allb-remove, allb-keep, allb-find, allb-swap, allb-map, find-key}
+use Rattle.lists.proofs.Find.{allb-put, put-new, find-key}
+use Rattle.lists.proofs.Tests.{and-both, and-4, and-5, allb-tail, allb-none, allb-cons, allb-snoc, allb-weaken, allb-joins, allb-take, allb-drop, allb-remove, allb-keep, allb-find, allb-swap}
+use Rattle.lists.proofs.Maps.{allb-map-so}
 use Rattle.seq.specs.Num.{legal, add, dist, cmp}
 use Rattle.packet.specs.declared.OutEntry.{OutEntry}
 use Rattle.packet.specs.declared.Packet.{Packet}
@@ -229,7 +230,7 @@ forwarded-entry t n h = entry-test t (forwardedEntry n t) (record { number = h; 
 
 allb-at : (f : OutEntry → Bool) (k : Place) (e : OutEntry) (es : List OutEntry) → f e ≡ true → allb f es ≡ true → allb f (insertedAt k e es) ≡ true
 allb-at f Again e es h g = g
-allb-at f (At k) e es h g = allb-append f (take k es) (e ∷ drop k es) (allb-take f k es g) (allb-cons f e (drop k es) h (allb-drop f k es g))
+allb-at f (At k) e es h g = allb-joins f (take k es) (e ∷ drop k es) (allb-take f k es g) (allb-cons f e (drop k es) h (allb-drop f k es g))
 
 inserted-all : (t : ℕ) (b : Bool) (e : OutEntry) (es : List OutEntry) → entryGood t e ≡ true → allb (entryGood t) es ≡ true → allb (entryGood t) (insertedIf b e es) ≡ true
 unfolding insertOut
@@ -253,7 +254,7 @@ sent-all t n [] h = allb-none (entryGood t)
 sent-all t n (x ∷ hs) h = allb-cons (entryGood t) (sentEntry t n x) (sentEntries t (add n 1) hs) (sent-entry t n x h) (sent-all t (add n 1) hs (add-legal n 1))
 
 pub sent-good : (t n : ℕ) (hs : List ℕ) (d : OffData) → legal n ≡ true → DataGood t d → DataGood t (withOut (d .out ++ sentEntries t n hs) d)
-sent-good t n hs d h g = data-out t d g (d .out ++ sentEntries t n hs) (allb-append (entryGood t) (d .out) (sentEntries t n hs) (g .out) (sent-all t n hs h))
+sent-good t n hs d h g = data-out t d g (d .out ++ sentEntries t n hs) (allb-joins (entryGood t) (d .out) (sentEntries t n hs) (g .out) (sent-all t n hs h))
 
 -- ---- resent
 
@@ -266,4 +267,4 @@ mark-good t timeout e h = at (due t timeout e) (entry-facts t e h)
 
 pub resent-good : (t timeout giveUp : ℕ) (d : OffData) → DataGood t d → DataGood t (resentData t timeout giveUp d)
 resent-good t timeout giveUp d g =
-    data-out t d g (map (mark t timeout) (kept t giveUp d)) (allb-map (entryGood t) (entryGood t) (mark t timeout) (mark-good t timeout) (kept t giveUp d) (allb-keep (entryGood t) _ (d .out) (g .out)))
+    data-out t d g (map (mark t timeout) (kept t giveUp d)) (allb-map-so (entryGood t) (entryGood t) (mark t timeout) (mark-good t timeout) (kept t giveUp d) (allb-keep (entryGood t) _ (d .out) (g .out)))

@@ -7,7 +7,8 @@ use lib.Dec.{eqb}
 use borrow.Author.Tests.{not-true, eqb-true, eqb-false, eq-eqb, ne-eqb}
 use Rattle.lists.specs.Find.{has, putBy, removeFirst}
 use Rattle.lists.proofs.Pad.{and-left, and-right}
-use Rattle.lists.proofs.Kept.{and-both, has-remove, has-none-put, has-same, has-map}
+use Rattle.lists.proofs.Tests.{and-both, has-remove, has-none-put, has-same}
+use Rattle.lists.proofs.Maps.{has-map}
 use Rattle.model.specs.Wellformed.{distinct}
 
 -- two numbers, either way round; and equal numbers, beside a third

@@ -4,7 +4,7 @@ use mathlib.Core.Bool.{Bool, true, false}
 use mathlib.Core.List.{List, _++_}
 use Prim.Native.Nat.{ℕ}
 use lib.ListN.{length}
-use Rattle.lists.proofs.Kept.{or-left}
+use Rattle.lists.proofs.Tests.{or-left}
 use Rattle.seq.specs.Num.{legal, add}
 use Rattle.packet.specs.declared.Key.{Key}
 use Rattle.packet.specs.Data.{isSet, keyIndex, keyMade}

@@ -11,7 +11,9 @@ use lib.ListN.{length, length-map}
 use borrow.Author.Tests.{leb-true, le-leb}
 use Rattle.lists.specs.Pad.{allb}
 use Rattle.lists.specs.Find.{has, removeFirst, joined}
-use Rattle.lists.proofs.Kept.{and-both, and-3, and-4, and-6, length-remove, length-keep, length-joined-tail}
+use Rattle.lists.proofs.Tests.{and-both, and-3, and-4, and-6}
+use Rattle.lists.proofs.Find.{length-remove, length-keep}
+use Rattle.lists.proofs.Joined.{length-joined-tail}
 use Rattle.seq.specs.Num.{cmp}
 use Rattle.packet.specs.declared.OutEntry.{OutEntry}
 use Rattle.packet.specs.declared.Record.{Record}

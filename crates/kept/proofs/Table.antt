@@ -8,8 +8,9 @@ use lib.ListN.{length, length-map}
 use borrow.Author.Tests.{leb-true, eqb-true, eq-eqb}
 use Rattle.lists.specs.Pad.{allb}
 use Rattle.lists.proofs.Pad.{and-left, and-right}
-use Rattle.lists.proofs.Find.{allb-put}
-use Rattle.lists.proofs.Kept.{never, and-both, and-5, allb-none, allb-weaken, allb-find, allb-map, length-put, find-key}
+use Rattle.lists.proofs.Find.{allb-put, length-put-le, find-key}
+use Rattle.lists.proofs.Tests.{never, and-both, and-5, allb-none, allb-weaken, allb-find}
+use Rattle.lists.proofs.Maps.{allb-map-so}
 use Rattle.seq.specs.Num.{legal}
 use Rattle.model.specs.State.{OffChannel, OnChannel, Protocol, State, new, newOff, newOn, isOff, isOn, hasOff, hasOn, offAt, onAt, putOff, putOn}
 use Rattle.model.specs.Room.{fitsOff, fitsOn, fits}
@@ -146,7 +147,7 @@ module _ (p : Protocol) (f : Fits p) where
   fits-put-on c h k =
       record {
         offs = f .offs;
-        ons = length-put (isOn (c .address) (c .index)) c (p .ons) 7 (f .ons) (absent-short (hasOn (c .address) (c .index) p) (length (p .ons)) 7 h);
+        ons = length-put-le (isOn (c .address) (c .index)) c (p .ons) 7 (f .ons) (absent-short (hasOn (c .address) (c .index) p) (length (p .ons)) 7 h);
         eachOff = f .eachOff;
         eachOn = allb-put fitsOn (isOn (c .address) (c .index)) c (p .ons) (f .eachOn) ∙ k;
       }
@@ -154,7 +155,7 @@ module _ (p : Protocol) (f : Fits p) where
   fits-put-off : (c : OffChannel) → hasPlace false (c .address) 0 p ≡ true → fitsOff c ≡ true → Fits (putOff c p)
   fits-put-off c h k =
       record {
-        offs = length-put (isOff (c .address)) c (p .offs) 3 (f .offs) (absent-short (hasOff (c .address) p) (length (p .offs)) 3 h);
+        offs = length-put-le (isOff (c .address)) c (p .offs) 3 (f .offs) (absent-short (hasOff (c .address) p) (length (p .offs)) 3 h);
         ons = f .ons;
         eachOff = allb-put fitsOff (isOff (c .address)) c (p .offs) (f .eachOff) ∙ k;
         eachOn = f .eachOn;
@@ -177,13 +178,13 @@ well-resent t timeout giveUp p w =
           record {
             offs = omega (arith, w .fits .offs, length-map (p .offs) (resentOff t timeout giveUp));
             ons = omega (arith, w .fits .ons, length-map (p .ons) (resentOn t timeout giveUp));
-            eachOff = allb-map fitsOff fitsOff (resentOff t timeout giveUp) (λ c k. off-fits-with (resentData t timeout giveUp (c .off)) c (resent-fits t timeout giveUp (c .off) (fits-data-facts (c .off) k))) (p .offs) (w .fits .eachOff);
-            eachOn = allb-map fitsOn fitsOn (resentOn t timeout giveUp) (λ c k. on-fits-with (resentData t timeout giveUp (c .off)) c (resent-fits t timeout giveUp (c .off) (fits-on-facts c k .common)) k) (p .ons) (w .fits .eachOn);
+            eachOff = allb-map-so fitsOff fitsOff (resentOff t timeout giveUp) (λ c k. off-fits-with (resentData t timeout giveUp (c .off)) c (resent-fits t timeout giveUp (c .off) (fits-data-facts (c .off) k))) (p .offs) (w .fits .eachOff);
+            eachOn = allb-map-so fitsOn fitsOn (resentOn t timeout giveUp) (λ c k. on-fits-with (resentData t timeout giveUp (c .off)) c (resent-fits t timeout giveUp (c .off) (fits-on-facts c k .common)) k) (p .ons) (w .fits .eachOn);
           };
       good =
           record {
-            offs = allb-map (offGood t) (offGood t) (resentOff t timeout giveUp) (λ c k. data-test t (resentData t timeout giveUp (c .off)) (resent-good t timeout giveUp (c .off) (data-facts t (c .off) k))) (p .offs) (w .good .offs);
-            ons = allb-map (onGood t) (onGood t) (resentOn t timeout giveUp) (λ c k. on-test t (resentOn t timeout giveUp c) (on-with t (resentData t timeout giveUp (c .off)) c (resent-good t timeout giveUp (c .off) (on-facts t c k .common)) (on-facts t c k))) (p .ons) (w .good .ons);
+            offs = allb-map-so (offGood t) (offGood t) (resentOff t timeout giveUp) (λ c k. data-test t (resentData t timeout giveUp (c .off)) (resent-good t timeout giveUp (c .off) (data-facts t (c .off) k))) (p .offs) (w .good .offs);
+            ons = allb-map-so (onGood t) (onGood t) (resentOn t timeout giveUp) (λ c k. on-test t (resentOn t timeout giveUp c) (on-with t (resentData t timeout giveUp (c .off)) c (resent-good t timeout giveUp (c .off) (on-facts t c k .common)) (on-facts t c k))) (p .ons) (w .good .ons);
             apartOffs = apart-map sameOff (resentOff t timeout giveUp) (λ x y. refl) (p .offs) (w .good .apartOffs);
             apartOns = apart-map sameOn (resentOn t timeout giveUp) (λ x y. refl) (p .ons) (w .good .apartOns);
             source = w .good .source;

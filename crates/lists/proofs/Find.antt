@@ -1,14 +1,13 @@
 -- Laws on looking for an element by a test, putting one in its place and taking some out, for any element type.
 -- Assumes nothing.
-use mathlib.Core.Path.{_≡_, refl, ap, sym, _∙_}
-use mathlib.Core.Bool.{Bool, true, false, not, cond, _&&_, _||_}
+use mathlib.Core.Path.{_≡_, refl, ap}
 use mathlib.Core.List.{List, [], _∷_, _++_, map}
-use mathlib.Core.Option.{Option, none, some}
-use Prim.Native.Nat.{ℕ, zero, suc, _+_, _-_, _≤_, _<_}
+use Prim.Native.Nat.{ℕ, zero, suc, _≤_, zero-le, suc-le-suc}
+use mathlib.Core.Bool.{Bool, true, false, _&&_, cond, _||_}
 use native.Mathlib.Omega.{arith}
-use lib.ListN.{length, take, drop, getD, set}
-use Rattle.lists.specs.Pad.{allb, removeAt}
-use Rattle.lists.specs.Find.{later, position, has, findBy, putBy, removeFirst, keepBy, joined}
+use lib.ListN.{length, length-append}
+use Rattle.lists.specs.Pad.{removeAt, allb}
+use Rattle.lists.specs.Find.{has, findBy, putBy, removeFirst, keepBy}
 
 module _ {A : Type 0} where
   -- what was put is found
@@ -134,3 +133,87 @@ module _ {A : Type 0} where
       at t false p q ih = absurd (let n : _≡_ {A = ℕ} 0 1 = cc in omega arith)
       at true true p q ih = one (g e) q
       at false true p q ih = rw (p, ih q)
+
+  -- two elements for none that look the same through g
+  pub find-as : (B : Type 0) (g : A → B) (f : A → Bool) (z w : A) (xs : List A) → g z ≡ g w → g (findBy f z xs) ≡ g (findBy f w xs)
+  unfolding findBy
+  find-as B g f z w [] h = h
+  find-as B g f z w (x ∷ xs) h = at (f x) (find-as B g f z w xs h)
+    where
+      at : (t : Bool) → g (findBy f z xs) ≡ g (findBy f w xs) → g (cond t x (findBy f z xs)) ≡ g (cond t x (findBy f w xs))
+      at true ih = refl
+      at false ih = ih
+
+  -- in a mapped list, where neither the test nor g sees the map
+  pub find-map : (B : Type 0) (g : A → B) (f : A → Bool) (m : A → A) (z : A) (xs : List A) → ((x : A) → f (m x) ≡ f x) → ((x : A) → g (m x) ≡ g x) → g (findBy f z (map m xs)) ≡ g (findBy f z xs)
+  unfolding findBy
+  find-map B g f m z [] h k = refl
+  find-map B g f m z (x ∷ xs) h k = rw (h x) (at (f x) (find-map B g f m z xs h k))
+    where
+      at : (t : Bool) → g (findBy f z (map m xs)) ≡ g (findBy f z xs) → g (cond t (m x) (findBy f z (map m xs))) ≡ g (cond t x (findBy f z xs))
+      at true ih = k x
+      at false ih = ih
+
+  -- the element found passes the test, as the one for none does
+  pub find-key : (f : A → Bool) (z : A) (xs : List A) → f z ≡ true → f (findBy f z xs) ≡ true
+  unfolding findBy
+  find-key f z [] h = h
+  find-key f z (x ∷ xs) h = at (f x) refl (find-key f z xs h)
+    where
+      at : (t : Bool) → f x ≡ t → f (findBy f z xs) ≡ true → f (cond t x (findBy f z xs)) ≡ true
+      at true p ih = p
+      at false p ih = ih
+
+  -- ---- those that pass
+
+  pub keep-append : (f : A → Bool) (xs ys : List A) → keepBy f (xs ++ ys) ≡ keepBy f xs ++ keepBy f ys
+  unfolding keepBy
+  keep-append f [] ys = refl
+  keep-append f (x ∷ xs) ys = at (f x) (keep-append f xs ys)
+    where
+      at : (t : Bool) → keepBy f (xs ++ ys) ≡ keepBy f xs ++ keepBy f ys → cond t (x ∷ keepBy f (xs ++ ys)) (keepBy f (xs ++ ys)) ≡ cond t (x ∷ keepBy f xs) (keepBy f xs) ++ keepBy f ys
+      at true ih = ap (λ (l : List A). x ∷ l) ih
+      at false ih = ih
+
+  pub keep-keep : (f g h : A → Bool) → ((x : A) → h x ≡ g x && f x) → (xs : List A) → keepBy f (keepBy g xs) ≡ keepBy h xs
+  unfolding keepBy
+  keep-keep f g h e [] = refl
+  keep-keep f g h e (x ∷ xs) = rw e (at (g x) (keep-keep f g h e xs))
+    where
+      at : (b : Bool) → keepBy f (keepBy g xs) ≡ keepBy h xs → keepBy f (cond b (x ∷ keepBy g xs) (keepBy g xs)) ≡ cond (b && f x) (x ∷ keepBy h xs) (keepBy h xs)
+      at true p = rw p
+      at false p = p
+
+  -- ---- no list gets longer, or by one at most
+
+  pub length-remove : (g : A → Bool) (xs : List A) → length (removeFirst g xs) ≤ length xs
+  unfolding removeFirst
+  length-remove g [] = omega arith
+  length-remove g (x ∷ xs) = at (g x) (length-remove g xs)
+    where
+      at : (t : Bool) → length (removeFirst g xs) ≤ length xs → length (cond t xs (x ∷ removeFirst g xs)) ≤ suc (length xs)
+      at true ih = omega arith
+      at false ih = omega arith
+
+  pub length-keep : (g : A → Bool) (xs : List A) → length (keepBy g xs) ≤ length xs
+  unfolding keepBy
+  length-keep g [] = omega arith
+  length-keep g (x ∷ xs) = at (g x) (length-keep g xs)
+    where
+      at : (t : Bool) → length (keepBy g xs) ≤ length xs → length (cond t (x ∷ keepBy g xs) (keepBy g xs)) ≤ suc (length xs)
+      at true ih = omega arith
+      at false ih = omega arith
+
+  -- one more at most, and none where one is replaced
+  pub length-put-le : (f : A → Bool) (e : A) (xs : List A) (n : ℕ) → length xs ≤ suc n → (has f xs ≡ false → length xs ≤ n) → length (putBy f e xs) ≤ suc n
+  length-put-le f e xs n h k = at (has f xs) refl
+    where
+      at : (t : Bool) → has f xs ≡ t → length (putBy f e xs) ≤ suc n
+      at true p = omega (arith, length-put-here f e xs p)
+      at false p = omega (arith, ap length (put-new f e xs p), length-append xs (e ∷ []), k p)
+
+  pub length-removeAt-le : (i : ℕ) (xs : List A) → length (removeAt i xs) ≤ length xs
+  unfolding removeAt
+  length-removeAt-le i [] = zero-le
+  length-removeAt-le zero (x ∷ xs) = omega arith
+  length-removeAt-le (suc i) (x ∷ xs) = suc-le-suc (length-removeAt-le i xs)

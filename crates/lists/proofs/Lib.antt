@@ -1,11 +1,9 @@
 pub mod Pad
+pub mod Tests
 pub mod Find
 pub mod Slot
-pub mod FindAs
-pub mod Kept
-pub mod Outl
-pub mod Onch
-pub mod Frag
-pub mod Tabl
-pub mod Hand
-pub mod Recv
+pub mod Joined
+pub mod Maps
+pub mod Positions
+pub mod Looking
+pub mod Copies

@@ -222,20 +222,6 @@ module _ {A : Type 0} where
   mix-end (suc j) (x ∷ a) (y ∷ b) z e l h =
       ap (λ (r : List A). x ∷ r) (mix-end j a b z (omega arith) (omega arith) (λ k m. h (suc k) (suc-le-suc m)))
 
-  -- ---- the loop that turns each element x into f x
-
-  pub map-start : (f : A → A) (l : List A) → l ≡ mix 0 (map f l) l
-  map-start f l = refl
-
-  pub map-read : (f : A → A) (l : List A) (i : ℕ) (z : A) → i ≤ length l → getD (mix i (map f l) l) i z ≡ getD l i z
-  map-read f l i z h = mix-hi i (map f l) l i z (length-map l f) (omega (arith, length-map l f)) (omega arith)
-
-  pub map-step : (f : A → A) (l : List A) (i : ℕ) (z : A) → i < length l → set (mix i (map f l) l) i (f (getD l i z)) ≡ mix (i + 1) (map f l) l
-  map-step f l i z h = cc (List·getD-map f l i z, mix-step i (map f l) l (f z) (omega (arith, length-map l f)) h, add-one i)
-
-  pub map-end : (f : A → A) (l : List A) (i : ℕ) → length l ≤ i → mix i (map f l) l ≡ map f l
-  map-end f l i h = cc (take-all i (map f l) (omega (arith, length-map l f)), drop-of-length-le l {i = i} h, append-nil (map f l))
-
   -- ---- the loop of a removal: from place i on, each place takes what stands after it. l is the array as it is before place j is written
 
   pub record Shifting (N : ℕ) (z : A) (xs : List A) (i n : ℕ) (l : List A) (j : ℕ) : Type 0 where

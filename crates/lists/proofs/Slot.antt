@@ -1,15 +1,15 @@
 -- Laws on the place of an element that is found by a test, or of a new one after the last: what `findBy` and `putBy` do to an array.
 -- Assumes nothing.
-use mathlib.Core.Path.{_≡_, refl, ap, sym, _∙_}
-use mathlib.Core.Bool.{Bool, true, false, not, cond, _&&_, _||_}
-use mathlib.Core.List.{List, [], _∷_, _++_, map}
-use Prim.Native.Nat.{ℕ, zero, suc, _+_, _-_, _≤_, _<_}
+use mathlib.Core.Path.{_≡_, refl, sym, ap}
+use mathlib.Core.List.{List, [], _∷_, map}
+use Prim.Native.Nat.{ℕ, zero, suc, _≤_, _<_}
+use mathlib.Core.Bool.{Bool, true, false, cond, _||_}
 use native.Mathlib.Omega.{arith}
-use native.Mathlib.Numerals.{add-one}
-use lib.ListN.{length, take, drop, getD, set}
-use lib.Seq.{drop-cons}
+use lib.ListN.{length, getD, set, take}
 use Rattle.lists.specs.Pad.{pad}
 use Rattle.lists.specs.Find.{has, findBy, putBy, slotOf}
+use borrow.Author.Tests.{ltb-true, ltb-false, lt-ltb, le-leb, lt-leb}
+use lib.Dec.{ltb, leb}
 
 never : {P : Type 0} → _≡_ {A = ℕ} 0 1 → P
 never z = absurd (omega arith)
@@ -85,6 +85,18 @@ module _ {A : Type 0} where
       at : (t : Bool) → cond t 0 (suc (slotOf f xs)) < suc (length xs) → (slotOf f xs < length xs → length (putBy f e xs) ≡ length xs) → length (cond t (e ∷ xs) (x ∷ putBy f e xs)) ≡ suc (length xs)
       at true q ih = refl
       at false q ih = ap suc (ih (omega arith))
+
+  -- it is there, or there is a place for one more: its place is within the room
+  pub slot-room : (f : A → Bool) (xs : List A) (n m : ℕ) → suc m ≡ n → length xs ≤ n → has f xs || leb (length xs) m ≡ ltb (slotOf f xs) n
+  slot-room f xs n m e l = at (has f xs) refl
+    where
+      more : (t : Bool) → has f xs ≡ false → ltb (slotOf f xs) n ≡ t → leb (length xs) m ≡ t
+      more true q p = le-leb (length xs) m (omega (arith, slot-absent f xs q, ltb-true (slotOf f xs) n p))
+      more false q p = lt-leb (length xs) m (omega (arith, slot-absent f xs q, ltb-false (slotOf f xs) n p))
+
+      at : (t : Bool) → has f xs ≡ t → t || leb (length xs) m ≡ ltb (slotOf f xs) n
+      at true q = sym (lt-ltb (slotOf f xs) n (omega (arith, slot-has f xs q)))
+      at false q = more (ltb (slotOf f xs) n) q refl
 
 module _ {A B : Type 0} where
   -- the array of a list of A, each in its form g: reading at a place, and storing at the place of an element or after the last

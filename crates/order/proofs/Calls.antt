@@ -11,7 +11,7 @@ use borrow.Author.Tests.{eqb-true}
 use Rattle.lists.specs.Pad.{allb}
 use Rattle.lists.specs.Find.{keepBy}
 use Rattle.lists.proofs.Pad.{and-left, and-right}
-use Rattle.lists.proofs.FindAs.{find-map}
+use Rattle.lists.proofs.Find.{find-map}
 use Rattle.seq.specs.Num.{add}
 use Rattle.packet.specs.declared.OutEntry.{OutEntry}
 use Rattle.packet.specs.declared.Record.{Record}

@@ -5,8 +5,7 @@ use Prim.Native.Nat.{ℕ}
 use lib.Dec.{eqb}
 use borrow.Author.Tests.{eq-eqb, eqb-true}
 use Rattle.lists.proofs.Pad.{and-left, and-right}
-use Rattle.lists.proofs.Find.{find-put, find-put-other}
-use Rattle.lists.proofs.FindAs.{find-true, find-as}
+use Rattle.lists.proofs.Find.{find-put, find-put-other, find-key, find-as}
 use Rattle.model.specs.State.{OffData, OnChannel, Protocol, newOn, isOn, onAt, putOn, onWith}
 use Rattle.model.specs.Reorder.{Reliable}
 use Rattle.model.specs.Record.{reliableOf}
@@ -21,7 +20,7 @@ same-true a i = rw (eq-eqb a a refl, eq-eqb i i refl)
 
 -- a channel found or made has the key that was asked for
 on-passes : (a i v : ℕ) (p : Protocol) → isOn a i (onAt a i v p) ≡ true
-on-passes a i v p = find-true (isOn a i) (newOn a i v) (p .ons) (same-true a i)
+on-passes a i v p = find-key (isOn a i) (newOn a i v) (p .ons) (same-true a i)
 
 pub on-address : (a i v : ℕ) (p : Protocol) → onAt a i v p .address ≡ a
 on-address a i v p = eqb-true _ _ (and-left (eqb (onAt a i v p .address) a) (eqb (onAt a i v p .index) i) (on-passes a i v p))

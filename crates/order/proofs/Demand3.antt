@@ -7,7 +7,8 @@ use lib.ListN.{length, take, drop, take-append-drop}
 use Rattle.lists.specs.Pad.{allb}
 use Rattle.lists.specs.Find.{findBy}
 use Rattle.lists.proofs.Pad.{and-left, and-right}
-use Rattle.lists.proofs.FindAs.{allb-append, front-map}
+use Rattle.lists.proofs.Tests.{allb-append}
+use Rattle.lists.proofs.Maps.{front-map}
 use Rattle.seq.specs.Num.{wrap}
 use Rattle.packet.specs.declared.Packet.{Packet}
 use Rattle.packet.specs.declared.Record.{Record}

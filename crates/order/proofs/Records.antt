@@ -10,7 +10,8 @@ use borrow.Author.Tests.{eqb-true}
 use Rattle.lists.specs.Pad.{allb}
 use Rattle.lists.specs.Find.{keepBy}
 use Rattle.lists.proofs.Pad.{and-left, and-right}
-use Rattle.lists.proofs.FindAs.{allb-append, keep-append}
+use Rattle.lists.proofs.Find.{keep-append}
+use Rattle.lists.proofs.Tests.{allb-append}
 use Rattle.seq.specs.Num.{sub}
 use Rattle.packet.specs.declared.Record.{Record}
 use Rattle.packet.specs.Data.{isSet, packet, indexOf, versionOf, wellMade}

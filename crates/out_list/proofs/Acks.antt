@@ -10,8 +10,9 @@ use lib.ListN.{length, getD, set, take, drop, length-take, drop-of-length-le}
 use Rattle.lists.specs.Pad.{removeAt}
 use Rattle.lists.specs.Find.{slotOf}
 use Rattle.lists.proofs.Pad.{Shifting, shifting-start, shifting-step, shifting-end, removeAt-out, length-removeAt}
-use Rattle.lists.proofs.Outl.{drop-more, Finding, finding-start, finding-hit, finding-miss, finding-end, remove-slot}
-use Rattle.lists.proofs.Kept.{length-remove}
+use Rattle.lists.proofs.Find.{length-remove}
+use Rattle.lists.proofs.Positions.{drop-more, remove-slot}
+use Rattle.lists.proofs.Looking.{Finding, finding-start, finding-hit, finding-miss, finding-end}
 use Rattle.seq.specs.declared.Order.{Order}
 use Rattle.seq.specs.declared.Order.the-variants.{Less, Equal, Greater}
 use Rattle.seq.specs.Num.{cmp}

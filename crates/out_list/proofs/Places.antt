@@ -11,7 +11,7 @@ use lib.Dec.{leb}
 use lib.ListN.{length, getD, set, take, drop}
 use lib.Seq.{getD-take}
 use Rattle.lists.proofs.Pad.{Opening, opening-start, opening-step, opening-end, length-insertAt}
-use Rattle.lists.proofs.Outl.{insert-parts, length-parts}
+use Rattle.lists.proofs.Copies.{insert-parts, length-parts}
 use Rattle.seq.specs.declared.Order.{Order}
 use Rattle.seq.specs.declared.Order.the-variants.{Less, Equal, Greater}
 use Rattle.seq.specs.Num.{cmp}
@@ -91,7 +91,7 @@ insert-start o at e w h l = opening-start 32 noEntry (abs o) at e (o .len) (o .e
 pub insert-done : (xs : List OutEntry) (at : ℕ) (e : OutEntry) (n : ℕ) (l : List OutEntry) (j : ℕ) → Opening 32 noEntry xs at e n l j → j ≤ at → _≡_ {A = OutList} (record { len = n + 1; entries = set l j e }) (repr (take at xs ++ e ∷ drop at xs))
 insert-done xs at e n l j s h =
     let le : at ≤ length xs = omega arith in
-    cc (insert-parts at e xs le, length-insertAt at e xs, add-one n, s .count, opening-end 32 noEntry xs at e n l j s h)
+    cc (insert-parts at e xs, length-insertAt at e xs, add-one n, s .count, opening-end 32 noEntry xs at e n l j s h)
 
 pub ruleset inserting = (insert-start, opening-step, insert-done, needs)
 

@@ -10,8 +10,10 @@ use lib.ListN.{length, getD, set, take, drop, length-take, length-map, length-ap
 use lib.Seq.{take-all}
 use Rattle.lists.specs.Pad.{pad}
 use Rattle.lists.specs.Find.{has, keepBy}
-use Rattle.lists.proofs.Kept.{length-keep}
-use Rattle.lists.proofs.Outl.{drop-more, has-hit, has-miss, has-end, keep-yes, keep-no, keep-keep, Mapping, mapping-start, mapping-step, mapping-end, Writing, writing-start, writing-step, writing-end}
+use Rattle.lists.proofs.Find.{length-keep, keep-keep}
+use Rattle.lists.proofs.Positions.{drop-more}
+use Rattle.lists.proofs.Looking.{keep-yes, keep-no, Asking, asking-start, asking-hit, asking-step, asking-end}
+use Rattle.lists.proofs.Copies.{Mapping, mapping-start, mapping-step, mapping-end, Writing, writing-start, writing-step, writing-end}
 use Rattle.packet.specs.declared.OutEntry.{OutEntry}
 use Rattle.packet.specs.Data.{noEntry}
 use Rattle.model.specs.Rust.{young, due, mark}
@@ -241,29 +243,18 @@ pub ruleset writing = (rows-start, rows-first, rows-second, needs)
 
 -- ---- holds
 
-pub record Holding (o : OutList) (f : OutEntry → Bool) (i : ℕ) : Type 0 where
-  pub below : i ≤ o .len
-  pub room : o .len ≤ 32
-  pub size : length (o .entries) ≡ 32
-  pub rest : has f (drop i (abs o)) ≡ has f (abs o)
+module _ (o : OutList) (f : OutEntry → Bool) where
+  pub hold-start : Wf o → Asking f 32 (o .entries) (o .len) 0
+  hold-start w = asking-start f noEntry 32 (o .entries) (o .len) (wf-len-le o w) (wf-length o w)
 
-pub hold-start : (o : OutList) (f : OutEntry → Bool) → Wf o → Holding o f 0
-hold-start o f w = record { below = omega arith; room = wf-len-le o w; size = wf-length o w; rest = refl }
+  module _ (i : ℕ) (k : Asking f 32 (o .entries) (o .len) i) where
+    pub hold-hit : (b : Bool) → i < o .len → b ≡ f (getD (o .entries) i noEntry) → b ≡ true → true ≡ has f (abs o)
+    hold-hit b h p q = sym (asking-hit f noEntry 32 (o .entries) (o .len) i k h (sym p ∙ q))
 
-module _ (o : OutList) (f : OutEntry → Bool) (i : ℕ) (k : Holding o f i) where
-  pub hold-hit : (b : Bool) → i < o .len → b ≡ f (getD (o .entries) i noEntry) → b ≡ true → true ≡ has f (abs o)
-  hold-hit b h p q = sym (has-hit f (o .len) (o .entries) i noEntry h (omega (arith, k .size, k .room)) (sym p ∙ q)) ∙ k .rest
+    pub hold-miss : (b : Bool) → i < o .len → b ≡ f (getD (o .entries) i noEntry) → b ≡ false → Asking f 32 (o .entries) (o .len) (i + 1)
+    hold-miss b h p q = asking-step f noEntry 32 (o .entries) (o .len) i k h (sym p ∙ q)
 
-  pub hold-miss : (b : Bool) → i < o .len → b ≡ f (getD (o .entries) i noEntry) → b ≡ false → Holding o f (i + 1)
-  hold-miss b h p q =
-      record {
-        below = omega arith;
-        room = k .room;
-        size = k .size;
-        rest = has-miss f (o .len) (o .entries) i noEntry h (omega (arith, k .size, k .room)) (sym p ∙ q) ∙ k .rest;
-      }
-
-  pub hold-end : o .len ≤ i → false ≡ has f (abs o)
-  hold-end h = sym (has-end f (abs o) i (omega (arith, length-take (o .len) (o .entries)))) ∙ k .rest
+    pub hold-end : o .len ≤ i → false ≡ has f (abs o)
+    hold-end h = sym (asking-end f noEntry 32 (o .entries) (o .len) i k h)
 
 pub ruleset holding = (hold-start, hold-hit, hold-miss, hold-end, needs)

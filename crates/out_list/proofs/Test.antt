@@ -11,7 +11,8 @@ use lib.ListN.{length, drop}
 use lib.Seq.{length-take-le}
 use Rattle.lists.specs.Pad.{pad, allb}
 use Rattle.lists.proofs.Pad.{length-of-map, and-left, and-right, pad-of-tail, tail-of-pad}
-use Rattle.lists.proofs.Outl.{testing-start, testing-end, allb-both, pick-is}
+use Rattle.lists.proofs.Tests.{allb-both, pick-is}
+use Rattle.lists.proofs.Looking.{testing-start, testing-end}
 use Rattle.seq.specs.Num.{legal}
 use Rattle.packet.specs.declared.OutEntry.{OutEntry}
 use Rattle.packet.specs.Data.{noEntry}

@@ -3,7 +3,7 @@ use mathlib.Core.Bool.{Bool, true, false, not, cond, _&&_, _||_}
 use mathlib.Core.List.{List, [], _∷_}
 use Prim.Native.Nat.{ℕ, zero, suc}
 use lib.Dec.{ltb, leb, eqb}
-use lib.ListN.{take}
+use lib.ListN.{take, replicate}
 use Rattle.lists.specs.Pad.{allb}
 use Rattle.seq.specs.Num.{legal}
 use Rattle.packet.specs.declared.Record.{Record}
@@ -17,6 +17,29 @@ noPacket = record { number = 0; handle = 0; ranged = 0; first = 0; last = 0 }
 
 abbrev pub noEntry : OutEntry
 noEntry = record { time = 0; sent = 0; number = 0; held = 0; handle = 0 }
+
+-- a record with no field given: "an absent `seq` or `pkt` is 0"; also an unused place
+abbrev pub noRecord : Record
+noRecord =
+    record {
+      handle = 0;
+      prefix = 0;
+      on = 0;
+      indexed = 0;
+      index = 0;
+      version = 0;
+      reliable = 0;
+      number = 0;
+      ranged = 0;
+      first = 0;
+      last = 0;
+      hascumulative = 0;
+      cumulative = 0;
+      haslast = 0;
+      lastreliable = 0;
+      ackcount = 0;
+      acks = replicate 8 0;
+    }
 
 -- a flag is 1 or 0; another number is out of range
 abbrev pub isSet : ℕ → Bool

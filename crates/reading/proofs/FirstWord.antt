@@ -15,8 +15,9 @@ use Rattle.reading.specs.declared.Field.the-variants.{Given, Absent, Unr
 use Rattle.reading.specs.declared.Fields.{Fields}
 use Rattle.reading.specs.declared.Kind.the-variants.{In, Pig, Pop, Bad, BadIn}
 use Rattle.packet.specs.declared.Key.{Key}
+use Rattle.packet.specs.Data.{noRecord}
 use Rattle.reading.specs.Text.{bytes}
-use Rattle.reading.specs.Given.{noRecord, withPrefix}
+use Rattle.reading.specs.Given.{withPrefix}
 use Rattle.reading.specs.Grammar.{begins, numberOf, most64, fieldOf, fromOn, keyOf, badLine, inLine, inPrefix, fromPrefix, inAddress, fromAddress, inTime, fromTime, afterIn, popEnd, popIndexed, popIndex, popOn, popOff, popAddress, readPop, pigLine, pigPrefix, readPig, lineOf}
 use Rattle.reading.specs.FirstWord.{firstWord, isIn, usesUp}
 

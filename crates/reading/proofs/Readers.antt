@@ -15,6 +15,7 @@ use borrow.Author.Tests.{eq-eqb, ne-eqb, lt-ltb, le-ltb, leb-true}
 use Rattle.lists.proofs.Pad.{and-right}
 use Rattle.packet.specs.declared.Record.{Record}
 use Rattle.packet.specs.declared.Key.{Key}
+use Rattle.packet.specs.Data.{noRecord}
 use Rattle.reading.specs.declared.Number.{Number}
 use Rattle.reading.specs.declared.Number.the-variants.{Value, NoNumber}
 use Rattle.reading.specs.declared.Field.{Field}
@@ -26,7 +27,7 @@ use Rattle.reading.specs.declared.Kind.{Kind}
 use Rattle.reading.specs.declared.Kind.the-variants.{In, Pig, Pop, Bad, BadIn}
 use Rattle.reading.specs.declared.Line.{Line}
 use Rattle.reading.specs.Text.{bytes}
-use Rattle.reading.specs.Given.{noRecord, withPrefix, withAcks, withAck}
+use Rattle.reading.specs.Given.{withPrefix, withAcks, withAck}
 use Rattle.reading.specs.Grammar.{begins, taken, leading, value, whole, numberOf, most32, most64, worded, fieldOf, secondOf, firstOf, pairOf, Reader, unread, ended, flag, number, pair, oneMore, repeatedN, repeated, fromLrs, fromAck, fromOn, keyOf, badLine, inLine, fromPrefix, fromAddress, fromTime, afterIn, popEnd, popIndex, popOn, popOff, readPop, pigLine, readPig, lineOf}
 
 never : {P : Type 0} → _≡_ {A = ℕ} 0 1 → P

@@ -4,10 +4,11 @@ use mathlib.Core.List.{[], _∷_}
 use Prim.Native.Nat.{ℕ}
 use Rattle.packet.specs.declared.Record.{Record}
 use Rattle.packet.specs.declared.Key.{Key}
+use Rattle.packet.specs.Data.{noRecord}
 use Rattle.reading.specs.declared.Kind.the-variants.{In, Pig, Pop, Bad, BadIn}
 use Rattle.reading.specs.declared.Line.{Line}
 use Rattle.reading.specs.Text.{bytes}
-use Rattle.reading.specs.Given.{noRecord, withPrefix, withOn, withIndex, withReliable, withNumber, withRange, withCumulative, withAcks, withAck, withLast, withHandle}
+use Rattle.reading.specs.Given.{withPrefix, withOn, withIndex, withReliable, withNumber, withRange, withCumulative, withAcks, withAck, withLast, withHandle}
 use Rattle.reading.specs.Grammar.{lineOf, begins, afterIn, fromTime, numberOf, leading, valueFrom, fromAddress, fieldOf, fromPrefix, inLine, flag, pair, pairOf, number, repeated, repeatedN, ended, unread, badLine, readPig, pigLine, readPop, popOff, popOn, popIndex, popEnd, keyOf}
 
 abbrev arrives : ℕ → ℕ → Record → Line

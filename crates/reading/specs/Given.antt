@@ -3,31 +3,8 @@ use mathlib.Core.List.{List}
 use mathlib.Core.Bool.{cond}
 use Prim.Native.Nat.{ℕ, _+_}
 use lib.Dec.{ltb}
-use lib.ListN.{set, replicate}
+use lib.ListN.{set}
 use Rattle.packet.specs.declared.Record.{Record}
-
--- no field given: "an absent `seq` or `pkt` is 0", and what is not in use is 0
-abbrev pub noRecord : Record
-noRecord =
-    record {
-      handle = 0;
-      prefix = 0;
-      on = 0;
-      indexed = 0;
-      index = 0;
-      version = 0;
-      reliable = 0;
-      number = 0;
-      ranged = 0;
-      first = 0;
-      last = 0;
-      hascumulative = 0;
-      cumulative = 0;
-      haslast = 0;
-      lastreliable = 0;
-      ackcount = 0;
-      acks = replicate 8 0;
-    }
 
 abbrev pub withPrefix : ℕ → Record → Record
 withPrefix p r =

@@ -7,6 +7,7 @@ use lib.Dec.{leb, eqb}
 use lib.ListN.{length, drop}
 use Rattle.packet.specs.declared.Record.{Record}
 use Rattle.packet.specs.declared.Key.{Key}
+use Rattle.packet.specs.Data.{noRecord}
 use Rattle.reading.specs.declared.Number.{Number}
 use Rattle.reading.specs.declared.Number.the-variants.{Value, NoNumber}
 use Rattle.reading.specs.declared.Field.{Field}
@@ -18,7 +19,7 @@ use Rattle.reading.specs.declared.Kind.{Kind}
 use Rattle.reading.specs.declared.Kind.the-variants.{In, Pig, Pop, Bad, BadIn}
 use Rattle.reading.specs.declared.Line.{Line}
 use Rattle.reading.specs.Text.{bytes}
-use Rattle.reading.specs.Given.{noRecord, withPrefix, withOn, withIndex, withReliable, withNumber, withRange, withCumulative, withAck, withLast, withHandle}
+use Rattle.reading.specs.Given.{withPrefix, withOn, withIndex, withReliable, withNumber, withRange, withCumulative, withAck, withLast, withHandle}
 
 -- ---- a word, a number, a word with one number or two
 

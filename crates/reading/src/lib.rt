@@ -5,6 +5,7 @@ use packet::Record;
 ghost use mathlib.Core.Path.{_≡_};
 ghost use Prim.Native.Nat.{_≤_, _<_};
 ghost use lib.ListN.{length};
+ghost use Rattle.packet.specs.Data.{noRecord};
 ghost use Rattle.reading.specs.Text.{bytes};
 ghost use Rattle.reading.specs.Grammar as Grammar;
 ghost use Rattle.reading.specs.Given as Given;
@@ -143,7 +144,7 @@ fn read_pair(line: &[u8], w: &[u8]) -> Pair
 }
 
 fn no_record() -> Record
-    ensures { λ r. ⌜ r ≡ Given.noRecord ⌝ }
+    ensures { λ r. ⌜ r ≡ noRecord ⌝ }
 {
     Record {
         handle: 0,
@@ -350,7 +351,7 @@ fn bad_line(kind: Kind) -> Line
 
 // The fields of an `in` or a `pig` whose prefix is P.
 fn from_prefix_on(line: &[u8], p: u32) -> Fields
-    ensures { λ f. ⌜ f ≡ Grammar.fromOn (now (line .entry)) (Given.withPrefix p Given.noRecord) ⌝ }
+    ensures { λ f. ⌜ f ≡ Grammar.fromOn (now (line .entry)) (Given.withPrefix p noRecord) ⌝ }
 {
     let mut r = no_record();
     r.prefix = p;

@@ -9,7 +9,7 @@ use lib.Dec.{ltb, leb}
 use lib.ListN.{length, take}
 use borrow.Author.Tests.{ltb-true, lt-ltb, eq-eqb, ne-eqb}
 use Rattle.lists.specs.Find.{slotOf}
-use Rattle.lists.proofs.Recv.{slot-room}
+use Rattle.lists.proofs.Slot.{slot-room}
 use Rattle.packet.specs.declared.Record.{Record}
 use Rattle.packet.specs.Data.{isSet, wellMade, indexOf}
 use Rattle.model.specs.State as model

@@ -9,10 +9,10 @@ use lib.Dec.{leb}
 use borrow.Author.Needs.{needs}
 use lib.ListN.{length, getD, set}
 use borrow.Author.Tests.{leb-true, leb-false}
-use Rattle.lists.proofs.Find.{find-absent}
-use Rattle.lists.proofs.Frag.{map-set}
 use Rattle.lists.proofs.Pad.{and-left, length-of-map}
+use Rattle.lists.proofs.Find.{find-absent}
 use Rattle.lists.proofs.Slot.{absent-of-slot}
+use Rattle.lists.proofs.Maps.{map-set}
 use Rattle.packet.specs.declared.Record.{Record}
 use Rattle.packet.specs.declared.View.{View}
 use Rattle.packet.specs.Data.{isSet, wellMade, indexOf, versionOf}
@@ -104,8 +104,8 @@ module _ (u : Table) (wf : Wf u) (a : ℕ) (r : Record) (aim : Aim) where
           ∙ off-here s a d l (few-offs u wf)
 
   -- the table with a channel of that key stored at its place, and the record's prefix
-  abbrev storedOn : OnChannel → Table
-  storedOn c =
+  abbrev storedOn : ℕ → OnChannel → Table
+  storedOn n c =
       record {
         latest = u .latest;
         forwarding = u .forwarding;
@@ -113,26 +113,26 @@ module _ (u : Table) (wf : Wf u) (a : ℕ) (r : Record) (aim : Aim) where
         offset = u .offset;
         source = u .source;
         offcount = u .offcount;
-        oncount = inUse (u .oncount) (aim .new);
+        oncount = n;
         offs = u .offs;
         ons = set (u .ons) (aim .at) c;
       }
 
-  abbrev storedOff : OffChannel → Table
-  storedOff c =
+  abbrev storedOff : ℕ → OffChannel → Table
+  storedOff n c =
       record {
         latest = u .latest;
         forwarding = u .forwarding;
         prefix = r .prefix;
         offset = u .offset;
         source = u .source;
-        offcount = inUse (u .offcount) (aim .new);
+        offcount = n;
         oncount = u .oncount;
         offs = set (u .offs) (aim .at) c;
         ons = u .ons;
       }
 
-  on-stored : OnAim u a r aim → (x : model.OnChannel) → OnKeyed a (indexOf r) x → storedOn (reprOn x) ≡ repr (putOnP r (abs u) x)
+  on-stored : OnAim u a r aim → (x : model.OnChannel) → OnKeyed a (indexOf r) x → storedOn (inUse (u .oncount) (aim .new)) (reprOn x) ≡ repr (putOnP r (abs u) x)
   unfolding repr
   on-stored w x k = ap (λ (y : Table). store y (aim .new) (aim .at)) (wf .form) ∙ ap (λ (j : ℕ). store (repr s) (aim .new) j) at ∙ by (leb (length (s .protocol .ons)) place) refl
     where
@@ -170,7 +170,7 @@ module _ (u : Table) (wf : Wf u) (a : ℕ) (r : Record) (aim : Aim) where
       by true q = ap (λ (y : Bool). store (repr s) y place) (new ∙ q) ∙ put-on-new p x (leb-true _ _ q) (omega (arith, w .room, at))
       by false q = ap (λ (y : Bool). store (repr s) y place) (new ∙ q) ∙ put-on-old p x (leb-false _ _ q) (few-ons u wf)
 
-  off-stored : OffAim u a r aim → (x : model.OffChannel) → OffKeyed a x → storedOff (reprOff x) ≡ repr (putOffP r (abs u) x)
+  off-stored : OffAim u a r aim → (x : model.OffChannel) → OffKeyed a x → storedOff (inUse (u .offcount) (aim .new)) (reprOff x) ≡ repr (putOffP r (abs u) x)
   unfolding repr
   off-stored w x k = ap (λ (y : Table). store y (aim .new) (aim .at)) (wf .form) ∙ ap (λ (j : ℕ). store (repr s) (aim .new) j) at ∙ by (leb (length (s .protocol .offs)) place) refl
     where
@@ -208,13 +208,13 @@ module _ (u : Table) (wf : Wf u) (a : ℕ) (r : Record) (aim : Aim) where
       by false q = ap (λ (y : Bool). store (repr s) y place) (new ∙ q) ∙ put-off-old p x (leb-false _ _ q) (few-offs u wf)
 
   -- and its keys
-  on-keys : (keys : Keys) (c : OnChannel) → keys ≡ keysOf u → withOnKey keys (aim .at) (c .address) (c .index) ≡ keysOf (storedOn c)
+  on-keys : (keys : Keys) (n : ℕ) (c : OnChannel) → keys ≡ keysOf u → withOnKey keys (aim .at) (c .address) (c .index) ≡ keysOf (storedOn n c)
   unfolding keysOf
-  on-keys keys c k = ap (λ (l : Keys). withOnKey l (aim .at) (c .address) (c .index)) k ∙ (λ j. record { offs = map offKey (u .offs); ons = sym (map-set onKey (u .ons) (aim .at) c) j })
+  on-keys keys n c k = ap (λ (l : Keys). withOnKey l (aim .at) (c .address) (c .index)) k ∙ (λ j. record { offs = map offKey (u .offs); ons = sym (map-set onKey (u .ons) (aim .at) c) j })
 
-  off-keys : (keys : Keys) (c : OffChannel) → keys ≡ keysOf u → withOffKey keys (aim .at) (c .address) ≡ keysOf (storedOff c)
+  off-keys : (keys : Keys) (n : ℕ) (c : OffChannel) → keys ≡ keysOf u → withOffKey keys (aim .at) (c .address) ≡ keysOf (storedOff n c)
   unfolding keysOf
-  off-keys keys c k = ap (λ (l : Keys). withOffKey l (aim .at) (c .address)) k ∙ (λ j. record { offs = sym (map-set offKey (u .offs) (aim .at) c) j; ons = map onKey (u .ons) })
+  off-keys keys n c k = ap (λ (l : Keys). withOffKey l (aim .at) (c .address)) k ∙ (λ j. record { offs = sym (map-set offKey (u .offs) (aim .at) c) j; ons = map onKey (u .ons) })
 
   -- the channel's step is the model's on the record's channel
   on-step-is : OnAim u a r aim → (t : ℕ) (d : OnChannel) (s : OnStep) → u .latest ≡ t
@@ -300,7 +300,7 @@ module _ (t : Table) (a : ℕ) (b : Batch) (u : Table) (keys : Keys) (done : Tal
           let l : judgedOn outcome rec (abs u) .state ≡ abs u = on-dropped a (indexOf rec) rec (abs u) outcome (reprOn (onFor u (w .wf) a rec aim)) (on-keyed a now rec (abs u .protocol)) (ap (λ (y : OnStep). drops (y .code)) (sym on-is) ∙ sym y ∙ k) in
           turned t a b u keys done i z w h u keys n (judgedOn outcome rec (abs u)) on-step-model (w .wf .form ∙ ap (λ (y : model.State). repr y) (sym l)) (w .keyed) on-tally
 
-      pub turn-on-kept : (l : Keys) → x ≡ false → l ≡ withOnKey keys (aim .at) (s .channel .address) (s .channel .index)
+      pub turn-on-kept : (l : Keys) (o : ℕ) → x ≡ false → o ≡ inUse (u .oncount) (aim .new) → l ≡ withOnKey keys (aim .at) (s .channel .address) (s .channel .index)
           → Turning t a b
           (record {
             latest = u .latest;
@@ -309,17 +309,17 @@ module _ (t : Table) (a : ℕ) (b : Batch) (u : Table) (keys : Keys) (done : Tal
             offset = u .offset;
             source = u .source;
             offcount = u .offcount;
-            oncount = inUse (u .oncount) (aim .new);
+            oncount = o;
             offs = u .offs;
             ons = set (u .ons) (aim .at) (s .channel);
           })
           l n (i + 1)
-      turn-on-kept l k m =
+      turn-on-kept l o k c m =
           let p : KeptOn a (indexOf rec) rec (abs u) (judgedOn outcome rec (abs u) .state) (stepOn outcome (reprOn (onFor u (w .wf) a rec aim)) .channel) = on-kept a (indexOf rec) rec (abs u) outcome (reprOn (onFor u (w .wf) a rec aim)) (on-keyed a now rec (abs u .protocol)) (ap (λ (y : OnStep). drops (y .code)) (sym on-is) ∙ sym y ∙ k) in
           let j : s .channel ≡ reprOn (p .channel) = ap (λ (y : OnStep). y .channel) on-is ∙ p .form in
-          turned t a b u keys done i z w h (storedOn u (w .wf) a rec aim (s .channel)) l n (judgedOn outcome rec (abs u)) on-step-model
-          (ap (λ (y : OnChannel). storedOn u (w .wf) a rec aim y) j ∙ on-stored u (w .wf) a rec aim on-aim (p .channel) (p .key) ∙ ap (λ (y : model.State). repr y) (sym (p .state)))
-          (m ∙ on-keys u (w .wf) a rec aim keys (s .channel) (w .keyed)) on-tally
+          turned t a b u keys done i z w h (storedOn u (w .wf) a rec aim o (s .channel)) l n (judgedOn outcome rec (abs u)) on-step-model
+          ((λ q. storedOn u (w .wf) a rec aim (c q) (j q)) ∙ on-stored u (w .wf) a rec aim on-aim (p .channel) (p .key) ∙ ap (λ (y : model.State). repr y) (sym (p .state)))
+          (m ∙ on-keys u (w .wf) a rec aim keys o (s .channel) (w .keyed)) on-tally
 
   module _ (aim : Aim) (e : aim ≡ aimed keys (u .offcount) (u .oncount) a (getD (b .records) i z)) (c : aim .code ≡ 0) (o : getD (b .records) i z .on ≡ 1 → ⊥) where
     off-aim : OffAim u a rec aim
@@ -358,7 +358,7 @@ module _ (t : Table) (a : ℕ) (b : Batch) (u : Table) (keys : Keys) (done : Tal
           let l : judgedOff offOutcome rec (abs u) .state ≡ abs u = off-dropped a (indexOf rec) rec (abs u) offOutcome (reprOff (offFor u (w .wf) a rec aim)) (off-keyed a now rec (abs u .protocol)) (ap (λ (y : OffStep). drops (y .code)) (sym off-is) ∙ sym y ∙ k) in
           turned t a b u keys done i z w h u keys n (judgedOff offOutcome rec (abs u)) off-step-model (w .wf .form ∙ ap (λ (y : model.State). repr y) (sym l)) (w .keyed) off-tally
 
-      pub turn-off-kept : (l : Keys) → x ≡ false → l ≡ withOffKey keys (aim .at) (s .channel .address)
+      pub turn-off-kept : (l : Keys) (o : ℕ) → x ≡ false → o ≡ inUse (u .offcount) (aim .new) → l ≡ withOffKey keys (aim .at) (s .channel .address)
           → Turning t a b
           (record {
             latest = u .latest;
@@ -366,17 +366,17 @@ module _ (t : Table) (a : ℕ) (b : Batch) (u : Table) (keys : Keys) (done : Tal
             prefix = getD (b .records) i z .prefix;
             offset = u .offset;
             source = u .source;
-            offcount = inUse (u .offcount) (aim .new);
+            offcount = o;
             oncount = u .oncount;
             offs = set (u .offs) (aim .at) (s .channel);
             ons = u .ons;
           })
           l n (i + 1)
-      turn-off-kept l k m =
+      turn-off-kept l o k c m =
           let p : KeptOff a rec (abs u) (judgedOff offOutcome rec (abs u) .state) (stepOff offOutcome (reprOff (offFor u (w .wf) a rec aim)) .channel) = off-kept a (indexOf rec) rec (abs u) offOutcome (reprOff (offFor u (w .wf) a rec aim)) (off-keyed a now rec (abs u .protocol)) (ap (λ (y : OffStep). drops (y .code)) (sym off-is) ∙ sym y ∙ k) in
           let j : s .channel ≡ reprOff (p .channel) = ap (λ (y : OffStep). y .channel) off-is ∙ p .form in
-          turned t a b u keys done i z w h (storedOff u (w .wf) a rec aim (s .channel)) l n (judgedOff offOutcome rec (abs u)) off-step-model
-          (ap (λ (y : OffChannel). storedOff u (w .wf) a rec aim y) j ∙ off-stored u (w .wf) a rec aim off-aim (p .channel) (p .key) ∙ ap (λ (y : model.State). repr y) (sym (p .state)))
-          (m ∙ off-keys u (w .wf) a rec aim keys (s .channel) (w .keyed)) off-tally
+          turned t a b u keys done i z w h (storedOff u (w .wf) a rec aim o (s .channel)) l n (judgedOff offOutcome rec (abs u)) off-step-model
+          ((λ q. storedOff u (w .wf) a rec aim (c q) (j q)) ∙ off-stored u (w .wf) a rec aim off-aim (p .channel) (p .key) ∙ ap (λ (y : model.State). repr y) (sym (p .state)))
+          (m ∙ off-keys u (w .wf) a rec aim keys o (s .channel) (w .keyed)) off-tally
 
 pub ruleset turning = (turning-start, turning-end, turn-missed, on-index, on-form, on-made, turn-on-dropped, turn-on-kept, off-index, off-form, off-made, turn-off-dropped, turn-off-kept, length-of-map, needs)

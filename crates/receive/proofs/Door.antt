@@ -12,7 +12,7 @@ use Rattle.lists.specs.Pad.{pad}
 use Rattle.lists.proofs.Pad.{and-left, length-of-map, getD-default, length-pad, getD-pad}
 use Rattle.packet.specs.declared.Record.{Record}
 use Rattle.packet.specs.declared.View.{View}
-use Rattle.packet.specs.Data.{wellMade}
+use Rattle.packet.specs.Data.{noRecord, wellMade}
 use Rattle.model.specs.State as model
 use Rattle.model.specs.Refusals.{notWellFormed, outOfRange, timeBelow}
 use Rattle.model.specs.Calls.{Call, accept}
@@ -25,7 +25,7 @@ use Rattle.table.proofs.Test.{test-wf}
 use Rattle.calls.specs.declared.Batch.{Batch}
 use Rattle.calls.specs.declared.Delivered.{Delivered}
 use Rattle.calls.specs.Answers.{noView}
-use Rattle.calls.specs.Calls.{Outcome, tableReply, called, noRecord, recordsOf, deliveredOf, accepted}
+use Rattle.calls.specs.Calls.{Outcome, tableReply, called, recordsOf, deliveredOf, accepted}
 use Rattle.calls.proofs.Called.{called-refused, called-granted}
 use Rattle.receive.specs.Receive.{delivery, refusal}
 

@@ -3,14 +3,17 @@
 use mathlib.Core.Path.{_≡_, refl, ap, sym, subst, _∙_}
 use mathlib.Core.Bool.{true}
 use mathlib.Core.List.{List, [], _∷_}
-use Prim.Native.Nat.{ℕ, suc, _+_, _≤_, _<_}
+use Prim.Native.Nat.{ℕ, suc, _+_, _-_, _*_, _≤_, _<_}
 use native.Mathlib.Omega.{arith}
 use native.Mathlib.Numerals.{add-one}
+use mir.Syntax.{w64}
+use mir.Val.{Fits}
 use lib.ListN.{length, drop, getD, drop-of-length-le}
 use lib.Seq.{drop-cons}
 use Rattle.lists.specs.Pad.{pad}
 use Rattle.lists.proofs.Pad.{getD-default, length-pad, getD-pad}
 use Rattle.packet.specs.declared.Record.{Record}
+use Rattle.packet.specs.Data.{noRecord}
 use Rattle.model.specs.State as model
 use Rattle.model.specs.Port.{Result, takes, refuses, Recorded, Played, ahead, play, recordStep}
 use Rattle.model.specs.Wellformed.{wellFormed}
@@ -24,7 +27,7 @@ use Rattle.table.proofs.Places.{few-offs, few-ons, abs-repr, repr-wf}
 use Rattle.table.proofs.Test.{meets-parts, form-offcount, form-oncount}
 use Rattle.calls.specs.declared.Batch.{Batch}
 use Rattle.calls.specs.declared.Delivered.{Delivered}
-use Rattle.calls.specs.Calls.{noRecord, recordsOf}
+use Rattle.calls.specs.Calls.{recordsOf}
 use Rattle.receive.specs.declared.Tally.{Tally}
 use Rattle.receive.specs.Receive.{noTally, next, after, answered, delivery}
 use Rattle.receive.proofs.Answer.{answer-is}
@@ -75,7 +78,33 @@ turning-end t a b u keys done i d w h e =
     let s : abs u ≡ p .state = rw x at (w .ending) in
     e ∙ (λ k. answered ((w .wf .form ∙ ap (λ (q : model.State). repr q) s) k) (r k)) ∙ answer-is p
 
--- the next record
+-- ---- the numbers of a turn
+
+module _ (t : Table) (a : ℕ) (b : Batch) (u : Table) (keys : Keys) (done : Tally) (i : ℕ) (w : Turning t a b u keys done i) (h : i < b .count) where
+  pub turn-index : i < 8
+  turn-index = omega (arith, w .few, h)
+
+  pub turn-counted : done .count ≤ 8
+  turn-counted = omega (arith, w .counted, w .few, h)
+
+pub less-left : (n i : ℕ) → i < n → n - (i + 1) < n - i
+less-left n i h = omega (arith, h)
+
+pub next-fits : (i : ℕ) → i < 8 → Fits w64 (i + 1)
+next-fits i h = record { fits = omega (arith, h) }
+
+-- where a record, an on-channel and an off-channel begin
+pub record-fits : (i : ℕ) → i < 8 → Fits w64 (i * 96)
+record-fits i h = record { fits = omega (arith, h) }
+
+pub on-fits : (i : ℕ) → i < 8 → Fits w64 (i * 4064)
+on-fits i h = record { fits = omega (arith, h) }
+
+pub off-fits : (i : ℕ) → i < 4 → Fits w64 (i * 2760)
+off-fits i h = record { fits = omega (arith, h) }
+
+-- ---- the next record
+
 record-is : (b : Batch) (i : ℕ) (z : Record) → length (b .records) ≡ 8 → b .count ≤ 8 → i < b .count → drop i (recordsOf b) ≡ getD (b .records) i z ∷ drop (i + 1) (recordsOf b)
 record-is b i z p f h =
     let n = b .count in

@@ -180,6 +180,15 @@ fn opened_off(e: OffChannel, new: bool, address: u32) -> OffChannel
     c
 }
 
+fn on_step(e: OnChannel, new: bool, address: u32, r: Record, time: u64, forwarding: u32) -> OnStep
+    requires { ⌜ WfOn e ⌝ }
+    requires { ⌜ wellMade r ≡ true ⌝ }
+    ensures { λ s. ⌜ s ≡ stepOn (onRecord (isSet forwarding) time r (absOn (Spec.openedOn new address r e))) (Spec.openedOn new address r e) ⌝ }
+{
+    let c = opened_on(e, new, address, r);
+    records::on_record(c, r, time, forwarding)
+}
+
 fn off_step(e: OffChannel, new: bool, address: u32, r: Record, time: u64) -> OffStep
     requires { ⌜ WfOff e ⌝ }
     requires { ⌜ wellMade r ≡ true ⌝ }
@@ -233,6 +242,53 @@ fn answered(table: Table, done: Tally) -> Delivered
     }
 }
 
+// Each record by itself, in order, on the table that has the delivery's time.
+fn deliver(t: Table, address: u32, b: Batch) -> Delivered
+    requires { ⌜ Wf t ⌝ }
+    requires { ⌜ b .count ≤ 8 ⌝ }
+    ensures { λ d. ⌜ d ≡ Spec.delivery t address b ⌝ }
+{
+    let n = b.count as usize;
+    let mut u = t;
+    let mut keys = table::keys_of(t);
+    let mut done = Tally::none();
+    for i in 0..n {
+        let r = b.records[i];
+        let aim = aimed(keys, u.offcount, u.oncount, address, r);
+        if aim.code != 0 {
+            done = done.then(aim.code, no_view());
+            continue;
+        }
+        let at = aim.at;
+        if r.on == 1 {
+            let e = u.ons[at];
+            let s = on_step(e, aim.new, address, r, u.latest, u.forwarding);
+            let c = s.channel;
+            done = done.then(s.code, channel::on_view(c));
+            if drops(s.code) {
+                continue;
+            }
+            u.ons[at] = c;
+            u.oncount = in_use(u.oncount, aim.new);
+            u.prefix = r.prefix;
+            keys = with_on_key(keys, at, c.address, c.index);
+            continue;
+        }
+        let e = u.offs[at];
+        let s = off_step(e, aim.new, address, r, u.latest);
+        let c = s.channel;
+        done = done.then(s.code, channel::off_view(c));
+        if drops(s.code) {
+            continue;
+        }
+        u.offs[at] = c;
+        u.offcount = in_use(u.offcount, aim.new);
+        u.prefix = r.prefix;
+        keys = with_off_key(keys, at, c.address);
+    }
+    answered(u, done)
+}
+
 // "A malformed last record refuses the whole delivery"; so does a list of none or of more than 8.
 fn batch_made(b: Batch) -> bool
     ensures { λ r. ⌜ r ≡ deliveryMade (recordsOf b) ⌝ }
@@ -262,4 +318,24 @@ fn refusal(good: bool, made: bool, latest: u64, time: u64) -> u32
         return 3;
     }
     0
+}
+
+pub fn accept(t: Table, time: u64, address: u32, b: Batch) -> Delivered
+    ensures { λ d. ⌜ d ≡ accepted t time address b ⌝ }
+{
+    let good = table::well_formed(t);
+    let made = batch_made(b);
+    let code = refusal(good, made, t.latest, time);
+    if code != 0 {
+        let view = no_view();
+        return Delivered {
+            table: t,
+            code,
+            count: 0,
+            view,
+        };
+    }
+    let mut u = t;
+    u.latest = time;
+    deliver(u, address, b)
 }

@@ -21,7 +21,7 @@ use Rattle.out_list.proofs.Form as Outs
 use Rattle.ack_queue.specs.declared.AckQueue.{AckQueue}
 use Rattle.ack_queue.specs.Queue as Acks
 use Rattle.ack_queue.proofs.Form as Queues
-use Rattle.lists.proofs.Kept.{length-keep}
+use Rattle.lists.proofs.Find.{length-keep}
 use Rattle.channel.specs.declared.OffChannel.{OffChannel}
 use Rattle.channel.specs.declared.OnChannel.{OnChannel}
 use Rattle.channel.specs.declared.OffStep.{OffStep}

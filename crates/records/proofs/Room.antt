@@ -10,7 +10,7 @@ use lib.ListN.{length}
 use Rattle.lists.specs.Pad.{allb}
 use Rattle.lists.specs.Find.{joined}
 use Rattle.lists.proofs.Pad.{and-left, and-right}
-use Rattle.lists.proofs.Kept.{length-keep}
+use Rattle.lists.proofs.Find.{length-keep}
 use Rattle.packet.specs.declared.OutEntry.{OutEntry}
 use Rattle.packet.specs.declared.Record.{Record}
 use Rattle.packet.specs.Data.{isSet, singleAcks, wellMade, flagged, indexGood, given, acksGood}

@@ -13,7 +13,7 @@ use borrow.Author.Tests.{le-leb, lt-leb, leb-false, ne-eqb, not-true, not-false}
 use Rattle.lists.specs.Pad.{pad}
 use Rattle.lists.specs.Find.{joined}
 use Rattle.lists.proofs.Pad.{take-pad}
-use Rattle.lists.proofs.Onch.{joined-append}
+use Rattle.lists.proofs.Joined.{joined-append}
 use Rattle.seq.specs.declared.Order.{Order}
 use Rattle.seq.specs.declared.Order.the-variants.{Less, Equal, Greater}
 use Rattle.seq.specs.Num.{add, cmp}

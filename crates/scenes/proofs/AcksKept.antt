@@ -7,7 +7,7 @@ use native.Mathlib.Omega.{arith}
 use borrow.Author.Needs.{needs}
 use lib.ListN.{length, length-append}
 use Rattle.lists.specs.Find.{keepBy, swapRemoveFirst}
-use Rattle.lists.proofs.Kept.{length-keep}
+use Rattle.lists.proofs.Find.{length-keep}
 use Rattle.model.specs.Acks.{is, notBefore, ackInCumulative, ackInSingles}
 use Rattle.ack_queue.specs.declared.AckQueue.{AckQueue}
 use Rattle.ack_queue.specs.Queue.{abs, repr, Wf}

@@ -9,7 +9,7 @@ use borrow.Author.Tests.{leb-true}
 use lib.Dec.{leb}
 use lib.ListN.{length, length-append, length-map, replicate, length-replicate}
 use Rattle.lists.specs.Find.{keepBy}
-use Rattle.lists.proofs.Kept.{length-keep}
+use Rattle.lists.proofs.Find.{length-keep}
 use Rattle.packet.specs.declared.OutEntry.{OutEntry}
 use Rattle.packet.specs.declared.Resend.{Resend}
 use Rattle.model.specs.Acks.{ackSingle, ackSingles, ackCumulative, insertOut}

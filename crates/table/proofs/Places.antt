@@ -8,9 +8,9 @@ use lib.Dec.{ltb}
 use lib.ListN.{length, take, getD}
 use Rattle.lists.specs.Pad.{pad, allb}
 use Rattle.lists.specs.Find.{has, findBy, slotOf, joined}
-use Rattle.lists.proofs.Frag.{allb-at, map-kept}
+use Rattle.lists.proofs.Tests.{allb-getD, allb-find}
 use Rattle.lists.proofs.Slot.{slot-map, slot-has, find-slot, read-slot, read-spare, take-pad-map}
-use Rattle.lists.proofs.Tabl.{take-map, allb-find}
+use Rattle.lists.proofs.Maps.{map-kept, take-map}
 use Rattle.packet.specs.Data.{isSet}
 use Rattle.model.specs.State as model
 use Rattle.model.specs.Room.{fitsData, fitsOff, fitsOn, fits}
@@ -51,7 +51,7 @@ unfolding fitsData allb joined
 new-on-fits a i v = refl
 
 found-passes : {A : Type 0} (f g : A → Bool) (z : A) (l : List A) → allb f l ≡ true → has g l ≡ true → f (findBy g z l) ≡ true
-found-passes {A} f g z l p h = ap (λ (x : A). f x) (find-slot g z l) ∙ allb-at f z l (slotOf g l) p (slot-has g l h)
+found-passes {A} f g z l p h = ap (λ (x : A). f x) (find-slot g z l) ∙ allb-getD f z l (slotOf g l) (slot-has g l h) p
 
 module _ (t : Table) (w : Wf t) where
   pub few-offs : length (abs t .protocol .offs) ≤ 4
@@ -68,10 +68,10 @@ module _ (t : Table) (w : Wf t) where
 
   -- the channel of a key, found or new, keeps the limits; one that is there is good
   pub off-at-fits : (a : ℕ) → fitsOff (model.offAt a (abs t .protocol)) ≡ true
-  off-at-fits a = allb-find fitsOff (model.isOff a) (model.newOff a) (abs t .protocol .offs) (wf-meets t w .offs-fit) (new-off-fits a)
+  off-at-fits a = allb-find fitsOff (model.isOff a) (model.newOff a) (abs t .protocol .offs) (new-off-fits a) (wf-meets t w .offs-fit)
 
   pub on-at-fits : (a i v : ℕ) → fitsOn (model.onAt a i v (abs t .protocol)) ≡ true
-  on-at-fits a i v = allb-find fitsOn (model.isOn a i) (model.newOn a i v) (abs t .protocol .ons) (wf-meets t w .ons-fit) (new-on-fits a i v)
+  on-at-fits a i v = allb-find fitsOn (model.isOn a i) (model.newOn a i v) (abs t .protocol .ons) (new-on-fits a i v) (wf-meets t w .ons-fit)
 
   pub off-at-good : (a : ℕ) → model.hasOff a (abs t .protocol) ≡ true → offGood (t .latest) (model.offAt a (abs t .protocol)) ≡ true
   unfolding abs
@@ -91,7 +91,7 @@ module _ (t : Table) (w : Wf t) where
           let z = model.newOff 0 in
           let i : k < length l = ltb-true k (length l) q in
           let e : getD (t .offs) k d ≡ reprOff (getD l k z) = ap (λ (r : List OffChannel). getD r k d) (form-offs t w) ∙ read-slot reprOff 4 zeroOff l k d z i few-offs in
-          subst (λ (c : OffChannel). WfOff c) (sym e) (repr-wf-off (getD l k z) (allb-at fitsOff z l k (wf-meets t w .offs-fit) i))
+          subst (λ (c : OffChannel). WfOff c) (sym e) (repr-wf-off (getD l k z) (allb-getD fitsOff z l k i (wf-meets t w .offs-fit)))
       at false q =
           let l = abs t .protocol .offs in
           let e : getD (t .offs) k d ≡ zeroOff = ap (λ (r : List OffChannel). getD r k d) (form-offs t w) ∙ read-spare reprOff 4 zeroOff l k d (ltb-false k (length l) q) h in
@@ -106,7 +106,7 @@ module _ (t : Table) (w : Wf t) where
           let z = model.newOn 0 0 0 in
           let i : k < length l = ltb-true k (length l) q in
           let e : getD (t .ons) k d ≡ reprOn (getD l k z) = ap (λ (r : List OnChannel). getD r k d) (form-ons t w) ∙ read-slot reprOn 8 zeroOn l k d z i few-ons in
-          subst (λ (c : OnChannel). WfOn c) (sym e) (repr-wf-on (getD l k z) (allb-at fitsOn z l k (wf-meets t w .ons-fit) i))
+          subst (λ (c : OnChannel). WfOn c) (sym e) (repr-wf-on (getD l k z) (allb-getD fitsOn z l k i (wf-meets t w .ons-fit)))
       at false q =
           let l = abs t .protocol .ons in
           let e : getD (t .ons) k d ≡ zeroOn = ap (λ (r : List OnChannel). getD r k d) (form-ons t w) ∙ read-spare reprOn 8 zeroOn l k d (ltb-false k (length l) q) h in

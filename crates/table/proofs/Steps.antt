@@ -14,8 +14,10 @@ use Rattle.lists.specs.Pad.{pad, allb}
 use Rattle.lists.specs.Find.{has, slotOf}
 use Rattle.lists.proofs.Pad.{and-left, and-right, length-of-map, pad-nil}
 use Rattle.lists.proofs.Slot.{slot-has, slot-absent}
-use Rattle.lists.proofs.Outl.{Testing, testing-start, testing-step, testing-end}
-use Rattle.lists.proofs.Tabl.{take-map, Filling, filling-start, filling-step, filling-end}
+use Rattle.lists.proofs.Tests.{has-same}
+use Rattle.lists.proofs.Maps.{has-map, take-map}
+use Rattle.lists.proofs.Looking.{Testing, testing-start, testing-step, testing-end}
+use Rattle.lists.proofs.Copies.{Filling, filling-start, filling-step, filling-end}
 use Rattle.seq.specs.Num.{legal}
 use Rattle.packet.specs.Data.{isFlag}
 use Rattle.model.specs.State as model
@@ -221,15 +223,10 @@ pub ruleset parting = (offs-start, ons-start, offs-step, ons-step, apart-end, fi
 -- ---- the whole test
 
 module _ {A B : Type 0} (g : A → B) (same : B → B → Bool) (like : A → A → Bool) (s : (x y : A) → same (g x) (g y) ≡ like x y) where
-  has-map : (x : A) (l : List A) → has (same (g x)) (map g l) ≡ has (like x) l
-  unfolding has
-  has-map x [] = refl
-  has-map x (y ∷ l) = λ i. s x y i || has-map x l i
-
   distinct-map : (l : List A) → distinct same (map g l) ≡ distinct like l
   unfolding distinct
   distinct-map [] = refl
-  distinct-map (x ∷ l) = λ i. not (has-map x l i) && distinct-map l i
+  distinct-map (x ∷ l) = let e : has (same (g x)) (map g l) ≡ has (like x) l = has-map (same (g x)) g l ∙ has-same (λ (y : A). same (g x) (g y)) (like x) (s x) l in λ i. not (e i) && distinct-map l i
 
 abbrev likeOff : OffChannel → OffChannel → Bool
 likeOff c d = eqb (d .address) (c .address)

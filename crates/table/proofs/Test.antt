@@ -11,9 +11,9 @@ use lib.ListN.{length, take, drop, length-map}
 use lib.Seq.{length-take-le}
 use Rattle.lists.specs.Pad.{pad, allb}
 use Rattle.lists.proofs.Pad.{and-left, and-right, length-pad, pad-of-tail, tail-of-pad}
-use Rattle.lists.proofs.Frag.{allb-map, map-kept}
 use Rattle.lists.proofs.Slot.{take-pad-map}
-use Rattle.lists.proofs.Tabl.{allb-so, allb-so-two}
+use Rattle.lists.proofs.Tests.{allb-weaken, allb-so-two}
+use Rattle.lists.proofs.Maps.{allb-map, map-kept}
 use Rattle.seq.specs.Num.{legal}
 use Rattle.packet.specs.Data.{isSet, isFlag}
 use Rattle.model.specs.State as model
@@ -212,10 +212,10 @@ module _ (t : Table) (p : Parts t) where
       record {
         few-offs = omega (arith, offs-count, p .few-offs);
         few-ons = omega (arith, ons-count, p .few-ons);
-        offs-fit = allb-map fitsOff absOff u ∙ allb-so (goodOff (t .latest)) (λ c. fitsOff (absOff c)) (λ c q. wf-fits-off c (off-good-wf (t .latest) c q)) u (p .offs);
-        ons-fit = allb-map fitsOn absOn v ∙ allb-so (goodOn (t .latest)) (λ c. fitsOn (absOn c)) (λ c q. wf-fits-on c (on-good-wf (t .latest) c q)) v (p .ons);
-        offs-good = allb-map (offGood (t .latest)) absOff u ∙ allb-so (goodOff (t .latest)) (λ c. offGood (t .latest) (absOff c)) (off-good-model (t .latest)) u (p .offs);
-        ons-good = allb-map (onGood (t .latest)) absOn v ∙ allb-so (goodOn (t .latest)) (λ c. onGood (t .latest) (absOn c)) (on-good-model (t .latest)) v (p .ons);
+        offs-fit = allb-map fitsOff absOff u ∙ allb-weaken (goodOff (t .latest)) (λ c. fitsOff (absOff c)) (λ c q. wf-fits-off c (off-good-wf (t .latest) c q)) u (p .offs);
+        ons-fit = allb-map fitsOn absOn v ∙ allb-weaken (goodOn (t .latest)) (λ c. fitsOn (absOn c)) (λ c q. wf-fits-on c (on-good-wf (t .latest) c q)) v (p .ons);
+        offs-good = allb-map (offGood (t .latest)) absOff u ∙ allb-weaken (goodOff (t .latest)) (λ c. offGood (t .latest) (absOff c)) (off-good-model (t .latest)) u (p .offs);
+        ons-good = allb-map (onGood (t .latest)) absOn v ∙ allb-weaken (goodOn (t .latest)) (λ c. onGood (t .latest) (absOn c)) (on-good-model (t .latest)) v (p .ons);
         offs-apart = p .offs-apart;
         ons-apart = p .ons-apart;
         source = p .source;

@@ -12,7 +12,8 @@ use borrow.Author.Tests.{lt-ltb, le-ltb, le-leb, lt-leb, eq-eqb, ne-eqb, not-tru
 use Rattle.lists.specs.Pad.{allb}
 use Rattle.lists.specs.Find.{has}
 use Rattle.lists.proofs.Pad.{pad-nil, length-insertAt, Opening, opening-start, opening-end, allb-hit, allb-step, allb-end}
-use Rattle.lists.proofs.Onch.{insertAt-split, has-hit, has-step, has-end, Copying, copying-start, copying-step, copying-end}
+use Rattle.lists.proofs.Looking.{Asking, asking-start, asking-hit, asking-step, asking-end}
+use Rattle.lists.proofs.Copies.{insert-parts, Copying, copying-start, copying-step, copying-end}
 use Rattle.seq.specs.declared.Order.{Order}
 use Rattle.seq.specs.declared.Order.the-variants.{Less, Equal, Greater}
 use Rattle.seq.specs.Num.{cmp, dist, sub}
@@ -87,41 +88,23 @@ insert-start w at p f h l =
 
 pub insert-done : (w : Waiting) (at : ℕ) (p : Packet) (n : ℕ) (r : Waiting) (j : ℕ) → Opening 32 noPacket (abs w) at p n (r .packets) j → j ≤ at → _≡_ {A = Waiting} (record { len = n + 1; packets = set (r .packets) j p }) (repr (insertedAt (At at) p (abs w)))
 insert-done w at p n r j s h =
-    cc (insertAt-split at p (abs w), length-insertAt at p (abs w), add-one n, s .count, opening-end 32 noPacket (abs w) at p n (r .packets) j s h)
+    cc (insert-parts at p (abs w), length-insertAt at p (abs w), add-one n, s .count, opening-end 32 noPacket (abs w) at p n (r .packets) j s h)
 
 -- ---- the loop of `holds`: what is found from i on is what is found
 
-pub record Holding (w : Waiting) (h i : ℕ) : Type 0 where
-  pub below : i ≤ w .len
-  pub room : w .len ≤ 32
-  pub size : length (w .packets) ≡ 32
-  pub rest : has (holdsPacket h) (drop i (abs w)) ≡ has (holdsPacket h) (abs w)
+module _ (w : Waiting) (h : ℕ) where
+  pub holds-start : Wf w → Asking (holdsPacket h) 32 (w .packets) (w .len) 0
+  holds-start f = asking-start (holdsPacket h) noPacket 32 (w .packets) (w .len) (wf-len-le w f) (wf-length w f)
 
-pub holds-start : (w : Waiting) (h : ℕ) → Wf w → Holding w h 0
-holds-start w h f = record { below = omega arith; room = wf-len-le w f; size = wf-length w f; rest = refl }
+  module _ (i : ℕ) (s : Asking (holdsPacket h) 32 (w .packets) (w .len) i) where
+    pub holds-hit : i < w .len → getD (w .packets) i noPacket .handle ≡ h → true ≡ has (holdsPacket h) (abs w)
+    holds-hit m q = sym (asking-hit (holdsPacket h) noPacket 32 (w .packets) (w .len) i s m (eq-eqb _ _ q))
 
-module _ (w : Waiting) (h i : ℕ) (s : Holding w h i) where
-  inside : i < w .len → i < length (abs w)
-  inside m = omega (arith, length-take (w .len) (w .packets), s .room, s .size)
+    pub holds-miss : i < w .len → (getD (w .packets) i noPacket .handle ≡ h → ⊥) → Asking (holdsPacket h) 32 (w .packets) (w .len) (i + 1)
+    holds-miss m q = asking-step (holdsPacket h) noPacket 32 (w .packets) (w .len) i s m (ne-eqb _ _ q)
 
-  here : i < w .len → getD (abs w) i noPacket ≡ getD (w .packets) i noPacket
-  here m = getD-take (w .len) (w .packets) i noPacket m
-
-  pub holds-hit : i < w .len → getD (w .packets) i noPacket .handle ≡ h → true ≡ has (holdsPacket h) (abs w)
-  holds-hit m q =
-      sym (has-hit (holdsPacket h) noPacket (abs w) i (inside m) (ap (holdsPacket h) (here m) ∙ eq-eqb _ _ q)) ∙ s .rest
-
-  pub holds-miss : i < w .len → (getD (w .packets) i noPacket .handle ≡ h → ⊥) → Holding w h (i + 1)
-  holds-miss m q =
-      record {
-        below = omega arith;
-        room = s .room;
-        size = s .size;
-        rest = has-step (holdsPacket h) noPacket (abs w) i (inside m) (ap (holdsPacket h) (here m) ∙ ne-eqb _ _ q) ∙ s .rest;
-      }
-
-  pub holds-end : w .len ≤ i → false ≡ has (holdsPacket h) (abs w)
-  holds-end m = sym (has-end (holdsPacket h) (abs w) i (omega (arith, length-take (w .len) (w .packets)))) ∙ s .rest
+    pub holds-end : w .len ≤ i → false ≡ has (holdsPacket h) (abs w)
+    holds-end m = sym (asking-end (holdsPacket h) noPacket 32 (w .packets) (w .len) i s m)
 
 -- ---- the loop of `drop_front`: r has the first j of those that stay
 

@@ -1,6 +1,6 @@
 -- What is found from place i on is what is found. Assumes nothing.
 use Prim.Native.Nat.{_-_}
-use Rattle.lists.proofs.Outl.{Finding}
+use Rattle.lists.proofs.Looking.{Finding}
 use Rattle.model.specs.Acks.{is}
 use Rattle.ack_queue.proofs.One.{finding}
 use Rattle.ack_queue.proofs.position.Statement.{statement}

@@ -1,6 +1,6 @@
 -- The first i places are tested. Assumes nothing.
 use Prim.Native.Nat.{_-_}
-use Rattle.lists.proofs.Outl.{Testing, testing-step}
+use Rattle.lists.proofs.Looking.{Testing, testing-step}
 use Rattle.seq.specs.Num.{legal}
 use Rattle.model.specs.Acks.{is}
 use Rattle.ack_queue.proofs.Test.{testing}

@@ -1,6 +1,6 @@
 use Prim.Native.Nat.{_-_}
 use borrow.Author.Needs.{needs}
-use Rattle.lists.proofs.Frag.{Carrying, carrying-step}
+use Rattle.lists.proofs.Copies.{Carrying, carrying-step}
 use Rattle.bundles.proofs.Model.{handles-start, handles-done}
 use Rattle.bundles.proofs.handles_after.Statement.{statement}
 use Rattle.bundles.proofs.handles_after.Tie as tie

@@ -1,7 +1,7 @@
 use Prim.Native.Nat.{_-_}
 use borrow.Author.Needs.{needs}
 use Rattle.model.specs.Rust.{isHandle}
-use Rattle.lists.proofs.Frag.{Within}
+use Rattle.lists.proofs.Looking.{Within}
 use Rattle.bundles.proofs.Model.{held-start, held-done, held-step}
 use Rattle.bundles.proofs.holds.Statement.{statement}
 use Rattle.bundles.proofs.holds.Tie as tie

@@ -1,6 +1,6 @@
 use Prim.Native.Nat.{_-_}
 use borrow.Author.Needs.{needs}
-use Rattle.lists.proofs.Frag.{Past, past-start, past-end}
+use Rattle.lists.proofs.Looking.{Past, past-start, past-end}
 use Rattle.bundles.specs.Bundles.{isZero}
 use Rattle.bundles.proofs.Model.{zero-step}
 use Rattle.bundles.proofs.lengths_zero.Statement.{statement}

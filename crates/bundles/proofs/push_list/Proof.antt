@@ -1,14 +1,15 @@
 use Prim.Native.Nat.{_-_}
+use lib.ListN.{take}
 use borrow.Author.Needs.{needs}
 use Rattle.lists.specs.Find.{joined}
-use Rattle.lists.proofs.Frag.{Copying, copying-step}
+use Rattle.lists.proofs.Copies.{Copying}
 use Rattle.bundles.specs.Bundles.{abs}
-use Rattle.bundles.proofs.Model.{len-lt, len-fits, total-fits, push-start, push-list}
+use Rattle.bundles.proofs.Model.{len-lt, len-fits, total-fits, push-start, push-step, push-list}
 use Rattle.bundles.proofs.push_list.Statement.{statement}
 use Rattle.bundles.proofs.push_list.Tie as tie
 
 abbrev Inv-loop : tie.InvT-loop
-Inv-loop b n list k at m h₀ i₀ h i = Copying 64 0 (joined (abs b)) list at m h i
+Inv-loop b n list k at m h₀ i₀ h i = Copying 64 0 (joined (abs b)) (take m list) at m h i
 
 abbrev μ-loop : tie.MeasureT-loop
 μ-loop b n list k at m h₀ i₀ h i = m - i
@@ -44,7 +45,7 @@ loop-less : tie.Need-loop-less Inv-loop μ-loop
 loop-less c = search needs
 
 loop-again : tie.Need-loop-again Inv-loop μ-loop
-loop-again c = search copying-step
+loop-again c = search push-step
 
 mul-r : tie.Need-mul-r Inv-loop μ-loop
 mul-r c = search needs

@@ -1,12 +1,12 @@
 use Prim.Native.Nat.{_-_}
 use borrow.Author.Needs.{needs}
-use Rattle.lists.proofs.Frag.{Writing, writing-step}
+use Rattle.lists.proofs.Copies.{Fronting, fronting-step}
 use Rattle.bundles.proofs.Model.{write-start, write-length, write-done}
 use Rattle.bundles.proofs.write_front.Statement.{statement}
 use Rattle.bundles.proofs.write_front.Tie as tie
 
 abbrev Inv-loop : tie.InvT-loop
-Inv-loop out₀ n h i₀ out i = Writing h out₀ 64 n out i
+Inv-loop out₀ n h i₀ out i = Fronting h out₀ 64 n out i
 
 abbrev μ-loop : tie.MeasureT-loop
 μ-loop out₀ n h i₀ out i = n - i
@@ -39,7 +39,7 @@ loop-less : tie.Need-loop-less Inv-loop μ-loop
 loop-less c = search needs
 
 loop-again : tie.Need-loop-again Inv-loop μ-loop
-loop-again c = search writing-step
+loop-again c = search fronting-step
 
 same-length : tie.Need-same-length Inv-loop μ-loop
 same-length c = search write-length

@@ -1,7 +1,7 @@
 use Prim.Native.Nat.{_-_}
 use borrow.Author.Needs.{needs}
-use Rattle.lists.proofs.Frag.{Both, both-start, both-end}
 use Rattle.lists.proofs.Pad.{length-of-map}
+use Rattle.lists.proofs.Looking.{Both, both-start, both-end}
 use Rattle.fragments.specs.Groups.{usedGood, spareGood}
 use Rattle.fragments.proofs.Test.{each-hit, each-step}
 use Rattle.fragments.proofs.each_good.Statement.{statement}

@@ -1,7 +1,7 @@
 use Prim.Native.Nat.{_-_}
 use borrow.Author.Needs.{needs}
-use Rattle.lists.proofs.Frag.{Within}
 use Rattle.lists.proofs.Pad.{length-of-map}
+use Rattle.lists.proofs.Looking.{Within}
 use Rattle.fragments.proofs.Many.{heldIn, held-start, held-step, held-done}
 use Rattle.fragments.proofs.holds.Statement.{statement}
 use Rattle.fragments.proofs.holds.Tie as tie

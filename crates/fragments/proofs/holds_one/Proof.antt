@@ -1,6 +1,6 @@
 use Prim.Native.Nat.{_-_}
 use borrow.Author.Needs.{needs}
-use Rattle.lists.proofs.Frag.{Within}
+use Rattle.lists.proofs.Looking.{Within}
 use Rattle.model.specs.Rust.{holdsPlace}
 use Rattle.fragments.specs.Groups.{places}
 use Rattle.fragments.proofs.One.{one-start, one-step, one-done}

@@ -1,12 +1,12 @@
 use Prim.Native.Nat.{_-_}
 use borrow.Author.Needs.{needs}
-use Rattle.lists.proofs.Frag.{Writing, writing-step}
+use Rattle.lists.proofs.Copies.{Fronting, fronting-step}
 use Rattle.fragments.proofs.One.{bundle-start, bundle-done}
 use Rattle.fragments.proofs.into_bundle.Statement.{statement}
 use Rattle.fragments.proofs.into_bundle.Tie as tie
 
 abbrev Inv-loop : tie.InvT-loop
-Inv-loop h r₀ i₀ r i = Writing h r₀ 32 32 r i
+Inv-loop h r₀ i₀ r i = Fronting h r₀ 32 32 r i
 
 abbrev μ-loop : tie.MeasureT-loop
 μ-loop h r₀ i₀ r i = 32 - i
@@ -33,7 +33,7 @@ loop-less : tie.Need-loop-less Inv-loop μ-loop
 loop-less c = search needs
 
 loop-again : tie.Need-loop-again Inv-loop μ-loop
-loop-again c = search writing-step
+loop-again c = search fronting-step
 
 returns : tie.Need-returns Inv-loop μ-loop
 returns c = search bundle-done

@@ -1,5 +1,5 @@
 use Prim.Native.Nat.{_-_}
-use Rattle.lists.proofs.Hand.{Asking}
+use Rattle.lists.proofs.Looking.{Asking}
 use Rattle.handout.proofs.Held.{offHolds, asking}
 use Rattle.handout.proofs.offs_hold.Statement.{statement}
 use Rattle.handout.proofs.offs_hold.Tie as tie

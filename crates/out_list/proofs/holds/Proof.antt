@@ -1,12 +1,13 @@
 -- What the entries from place i on hold is what all do. Assumes nothing.
 use Prim.Native.Nat.{_-_}
 use Rattle.model.specs.Rust.{holdsEntry}
-use Rattle.out_list.proofs.Resends.{Holding, holding}
+use Rattle.lists.proofs.Looking.{Asking}
+use Rattle.out_list.proofs.Resends.{holding}
 use Rattle.out_list.proofs.holds.Statement.{statement}
 use Rattle.out_list.proofs.holds.Tie as tie
 
 abbrev Inv-loop : tie.InvT-loop
-Inv-loop handle o n i₀ i = Holding o (holdsEntry handle) i
+Inv-loop handle o n i₀ i = Asking (holdsEntry handle) 32 (o .entries) (o .len) i
 
 abbrev μ-loop : tie.MeasureT-loop
 μ-loop handle o n i₀ i = n - i

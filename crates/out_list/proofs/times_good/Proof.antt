@@ -1,6 +1,6 @@
 -- The first i places are tested. Assumes nothing.
 use Prim.Native.Nat.{_-_}
-use Rattle.lists.proofs.Outl.{Testing, testing-step}
+use Rattle.lists.proofs.Looking.{Testing, testing-step}
 use Rattle.packet.specs.Data.{noEntry}
 use Rattle.out_list.specs.Out.{timesGood, noTimes}
 use Rattle.out_list.proofs.Test.{testing}

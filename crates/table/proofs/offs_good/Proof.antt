@@ -1,5 +1,5 @@
 use Prim.Native.Nat.{_-_}
-use Rattle.lists.proofs.Outl.{Testing}
+use Rattle.lists.proofs.Looking.{Testing}
 use Rattle.channel.specs.Channel.{goodOff}
 use Rattle.table.specs.Table.{spareOff}
 use Rattle.table.proofs.Steps.{offs-turn, testing}

@@ -1,5 +1,5 @@
 use Prim.Native.Nat.{_-_}
-use Rattle.lists.proofs.Outl.{Testing}
+use Rattle.lists.proofs.Looking.{Testing}
 use Rattle.channel.specs.Channel.{goodOn}
 use Rattle.table.specs.Table.{spareOn}
 use Rattle.table.proofs.Steps.{ons-turn, testing}

@@ -1,11 +1,13 @@
 use borrow.Author.Needs.{needs}
 use Prim.Native.Nat.{_-_}
-use Rattle.waiting.proofs.Steps.{Holding, holds-start, holds-hit, holds-miss, holds-end}
+use Rattle.lists.proofs.Looking.{Asking}
+use Rattle.model.specs.Rust.{holdsPacket}
+use Rattle.waiting.proofs.Steps.{holds-start, holds-hit, holds-miss, holds-end}
 use Rattle.waiting.proofs.holds.Statement.{statement}
 use Rattle.waiting.proofs.holds.Tie as tie
 
 abbrev Inv-loop : tie.InvT-loop
-Inv-loop handle w n i₀ i = Holding w handle i
+Inv-loop handle w n i₀ i = Asking (holdsPacket handle) 32 (w .packets) (w .len) i
 
 abbrev μ-loop : tie.MeasureT-loop
 μ-loop handle w n i₀ i = n - i

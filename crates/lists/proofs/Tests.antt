@@ -1,16 +1,21 @@
--- What all elements pass, they pass after one is taken out, put in, or changed; no such change but an insertion makes a list longer.
--- Any element type. Assumes nothing.
-use mathlib.Core.Path.{_≡_, refl, ap, sym}
-use mathlib.Core.Bool.{Bool, true, false, cond, _&&_, _||_}
-use mathlib.Core.List.{List, [], _∷_, _++_, map}
-use mathlib.Core.Option.{Option, none, some}
-use Prim.Native.Nat.{ℕ, zero, suc, _-_, _≤_, _<_}
+-- Truth values, and what all or some elements of a list pass. Any element type. Assumes nothing.
+use mathlib.Core.Path.{_≡_, refl, sym, ap, _∙_}
+use mathlib.Core.List.{List, [], _∷_, _++_}
+use Prim.Native.Nat.{ℕ, zero, suc, _+_, _-_, _≤_, _<_, zero-le, suc-le-suc}
+use mathlib.Core.Bool.{Bool, true, false, _&&_, not, cond, _||_, and-true, or-false, or-assoc}
 use native.Mathlib.Omega.{arith}
-use lib.ListN.{length, take, drop, getD, set, length-append}
-use Rattle.lists.specs.Pad.{allb}
-use Rattle.lists.specs.Find.{position, has, findBy, putBy, removeFirst, keepBy, swapRemove, swapAt, swapRemoveFirst, joined}
+use native.Mathlib.Numerals.{add-one}
+use lib.ListN.{length, getD, set, take, drop, drop-of-length-le}
+use lib.Seq.{drop-cons}
+use Rattle.lists.specs.Pad.{removeAt, allb}
+use mathlib.Core.Option.{Option, none, some}
+use Rattle.lists.specs.Find.{position, has, findBy, putBy, removeFirst, keepBy, swapRemove, swapAt, swapRemoveFirst}
+use mathlib.Core.Logic.{_⊎_, inl, inr}
+use borrow.Author.Tests.{leb-true, leb-false}
+use lib.Dec.{leb}
 use Rattle.lists.proofs.Pad.{and-left, and-right}
-use Rattle.lists.proofs.Find.{length-put-here, put-new}
+
+-- ---- truth values
 
 pub never : {P : Type 0} → false ≡ true → P
 never e = absurd (let z : _≡_ {A = ℕ} 0 1 = cc in omega arith)
@@ -40,8 +45,28 @@ and-8 a b c d e f g i h = let l = and-7 a b c d e f g (and-left (a && b && c && 
 pub or-left : {a : Bool} (b : Bool) → a ≡ true → a || b ≡ true
 or-left b p = rw p
 
+-- two tests that hold together
+pub leb-same : (a b c d : ℕ) → (a ≤ b → c ≤ d) → (c ≤ d → a ≤ b) → leb a b ≡ leb c d
+leb-same a b c d f g = at (leb a b) (leb c d) refl refl
+  where
+    at : (t u : Bool) → leb a b ≡ t → leb c d ≡ u → leb a b ≡ leb c d
+    at true true p q = p ∙ sym q
+    at true false p q = let h = f (leb-true a b p) in let k = leb-false c d q in absurd (omega arith)
+    at false true p q = let h = g (leb-true c d q) in let k = leb-false a b p in absurd (omega arith)
+    at false false p q = p ∙ sym q
+
+-- a truth value by its two cases
+pub either-way : (b : Bool) → (b ≡ true) ⊎ (b ≡ false)
+either-way true = inl refl
+either-way false = inr refl
+
+-- one of two tests, without a branch
+pub pick-is : (u a b : Bool) → (u && a || not u && b) ≡ cond u a b
+pick-is true a b = or-false a
+pick-is false a b = refl
+
 module _ {A : Type 0} where
-  -- ---- every element passes a test
+  -- ---- all elements pass
 
   pub allb-head : (f : A → Bool) (x : A) (xs : List A) → allb f (x ∷ xs) ≡ true → f x ≡ true
   unfolding allb
@@ -64,12 +89,45 @@ module _ {A : Type 0} where
   allb-weaken f g w [] h = allb-none g
   allb-weaken f g w (x ∷ xs) h = allb-cons g x xs (w x (allb-head f x xs h)) (allb-weaken f g w xs (allb-tail f x xs h))
 
-  pub allb-append : (f : A → Bool) (xs ys : List A) → allb f xs ≡ true → allb f ys ≡ true → allb f (xs ++ ys) ≡ true
-  allb-append f [] ys h k = k
-  allb-append f (x ∷ xs) ys h k = allb-cons f x (xs ++ ys) (allb-head f x xs h) (allb-append f xs ys (allb-tail f x xs h) k)
+  pub allb-so-two : (f g h : A → Bool) → ((x : A) → f x ≡ true → g x ≡ true → h x ≡ true) → (l : List A) → allb f l ≡ true → allb g l ≡ true → allb h l ≡ true
+  unfolding allb
+  allb-so-two f g h w [] p q = refl
+  allb-so-two f g h w (x ∷ l) p q =
+      let a = w x (and-left (f x) (allb f l) p) (and-left (g x) (allb g l) q) in
+      let b = allb-so-two f g h w l (and-right (f x) (allb f l) p) (and-right (g x) (allb g l) q) in
+      λ i. a i && b i
+
+  -- a test of two parts
+  pub allb-both : (f g h : A → Bool) → ((x : A) → h x ≡ f x && g x) → (l : List A) → allb h l ≡ allb f l && allb g l
+  unfolding allb
+  allb-both f g h e [] = refl
+  allb-both f g h e (x ∷ l) = rw (e, allb-both f g h e l) (swap (f x) (g x) (allb f l) (allb g l))
+    where
+      swap : (a b c d : Bool) → a && b && (c && d) ≡ a && c && (b && d)
+      swap false b c d = refl
+      swap true false true d = refl
+      swap true false false d = refl
+      swap true true c d = refl
+
+  pub allb-append : (f : A → Bool) (xs ys : List A) → allb f (xs ++ ys) ≡ (allb f xs && allb f ys)
+  unfolding allb
+  allb-append f [] ys = refl
+  allb-append f (x ∷ xs) ys = at (f x) (allb-append f xs ys)
+    where
+      at : (t : Bool) → allb f (xs ++ ys) ≡ (allb f xs && allb f ys) → (t && allb f (xs ++ ys)) ≡ ((t && allb f xs) && allb f ys)
+      at true ih = ih
+      at false ih = refl
+
+  pub allb-joins : (f : A → Bool) (xs ys : List A) → allb f xs ≡ true → allb f ys ≡ true → allb f (xs ++ ys) ≡ true
+  allb-joins f xs ys h k = allb-append f xs ys ∙ and-both h k
 
   pub allb-snoc : (f : A → Bool) (xs : List A) (x : A) → allb f xs ≡ true → f x ≡ true → allb f (xs ++ (x ∷ [])) ≡ true
-  allb-snoc f xs x h k = allb-append f xs (x ∷ []) h (allb-cons f x [] k (allb-none f))
+  allb-snoc f xs x h k = allb-joins f xs (x ∷ []) h (allb-cons f x [] k (allb-none f))
+
+  pub allb-one : (f : A → Bool) (xs : List A) (x : A) → allb f xs ≡ true → allb f (xs ++ x ∷ []) ≡ f x
+  unfolding allb
+  allb-one f [] x p = and-true (f x)
+  allb-one f (y ∷ xs) x p = rw (and-left (f y) (allb f xs) p, allb-one f xs x (and-right (f y) (allb f xs) p))
 
   -- of a list's end
   pub allb-behind : (f : A → Bool) (xs ys : List A) → allb f (xs ++ ys) ≡ true → allb f ys ≡ true
@@ -91,10 +149,21 @@ module _ {A : Type 0} where
   allb-getD f z (x ∷ xs) zero l h = allb-head f x xs h
   allb-getD f z (x ∷ xs) (suc i) l h = allb-getD f z xs i (omega arith) (allb-tail f x xs h)
 
+  pub allb-all : (f : A → Bool) (z : A) (xs : List A) → ((i : ℕ) → i < length xs → f (getD xs i z) ≡ true) → allb f xs ≡ true
+  unfolding allb
+  allb-all f z [] h = refl
+  allb-all f z (x ∷ xs) h = rw (h 0 (suc-le-suc zero-le), allb-all f z xs (λ i m. h (suc i) (suc-le-suc m)))
+
   pub allb-set : (f : A → Bool) (xs : List A) (i : ℕ) (e : A) → f e ≡ true → allb f xs ≡ true → allb f (set xs i e) ≡ true
   allb-set f [] i e p h = h
   allb-set f (x ∷ xs) zero e p h = allb-cons f e xs p (allb-tail f x xs h)
   allb-set f (x ∷ xs) (suc i) e p h = allb-cons f x (set xs i e) (allb-head f x xs h) (allb-set f xs i e p (allb-tail f x xs h))
+
+  pub allb-removeAt : (f : A → Bool) (i : ℕ) (xs : List A) → allb f xs ≡ true → allb f (removeAt i xs) ≡ true
+  unfolding allb removeAt
+  allb-removeAt f i [] p = refl
+  allb-removeAt f zero (x ∷ xs) p = and-right (f x) (allb f xs) p
+  allb-removeAt f (suc i) (x ∷ xs) p = rw (and-left (f x) (allb f xs) p, allb-removeAt f i xs (and-right (f x) (allb f xs) p))
 
   pub allb-remove : (f g : A → Bool) (xs : List A) → allb f xs ≡ true → allb f (removeFirst g xs) ≡ true
   unfolding removeFirst
@@ -139,39 +208,18 @@ module _ {A : Type 0} where
       at none = h
       at (some i) = allb-swap-at f z i xs h
 
-  -- ---- lengths
+  -- ---- one of the elements passes
 
-  pub length-remove : (g : A → Bool) (xs : List A) → length (removeFirst g xs) ≤ length xs
-  unfolding removeFirst
-  length-remove g [] = omega arith
-  length-remove g (x ∷ xs) = at (g x) (length-remove g xs)
-    where
-      at : (t : Bool) → length (removeFirst g xs) ≤ length xs → length (cond t xs (x ∷ removeFirst g xs)) ≤ suc (length xs)
-      at true ih = omega arith
-      at false ih = omega arith
+  pub has-append : (f : A → Bool) (xs ys : List A) → has f (xs ++ ys) ≡ (has f xs || has f ys)
+  unfolding has
+  has-append f [] ys = refl
+  has-append f (x ∷ xs) ys = ap (λ (r : Bool). f x || r) (has-append f xs ys) ∙ sym (or-assoc (f x) (has f xs) (has f ys))
 
-  pub length-keep : (g : A → Bool) (xs : List A) → length (keepBy g xs) ≤ length xs
-  unfolding keepBy
-  length-keep g [] = omega arith
-  length-keep g (x ∷ xs) = at (g x) (length-keep g xs)
-    where
-      at : (t : Bool) → length (keepBy g xs) ≤ length xs → length (cond t (x ∷ keepBy g xs) (keepBy g xs)) ≤ suc (length xs)
-      at true ih = omega arith
-      at false ih = omega arith
-
-  -- one more at most, and none where one is replaced
-  pub length-put : (f : A → Bool) (e : A) (xs : List A) (n : ℕ) → length xs ≤ suc n → (has f xs ≡ false → length xs ≤ n) → length (putBy f e xs) ≤ suc n
-  length-put f e xs n h k = at (has f xs) refl
-    where
-      at : (t : Bool) → has f xs ≡ t → length (putBy f e xs) ≤ suc n
-      at true p = omega (arith, length-put-here f e xs p)
-      at false p = omega (arith, ap length (put-new f e xs p), length-append xs (e ∷ []), k p)
-
-  pub length-joined-tail : (b : List A) (bs : List (List A)) → length (joined bs) ≤ length (joined (b ∷ bs))
-  unfolding joined
-  length-joined-tail b bs = omega (arith, length-append b (joined bs))
-
-  -- ---- none is found
+  -- tests that agree on every element
+  pub has-same : (f g : A → Bool) → ((x : A) → f x ≡ g x) → (xs : List A) → has f xs ≡ has g xs
+  unfolding has
+  has-same f g w [] = refl
+  has-same f g w (x ∷ xs) = rw (w x, has-same f g w xs)
 
   pub has-remove : (f g : A → Bool) (xs : List A) → has f xs ≡ false → has f (removeFirst g xs) ≡ false
   unfolding has removeFirst
@@ -192,29 +240,3 @@ module _ {A : Type 0} where
       at true p u q ih = never (sym q)
       at false p true q ih = rw k q
       at false p false q ih = rw p (ih q)
-
-  -- tests that agree on every element
-  pub has-same : (f g : A → Bool) → ((x : A) → f x ≡ g x) → (xs : List A) → has f xs ≡ has g xs
-  unfolding has
-  has-same f g w [] = refl
-  has-same f g w (x ∷ xs) = rw (w x, has-same f g w xs)
-
-  -- the element found passes the test, as the one for none does
-  pub find-key : (f : A → Bool) (z : A) (xs : List A) → f z ≡ true → f (findBy f z xs) ≡ true
-  unfolding findBy
-  find-key f z [] h = h
-  find-key f z (x ∷ xs) h = at (f x) refl (find-key f z xs h)
-    where
-      at : (t : Bool) → f x ≡ t → f (findBy f z xs) ≡ true → f (cond t x (findBy f z xs)) ≡ true
-      at true p ih = p
-      at false p ih = ih
-
-module _ {A B : Type 0} where
-  pub allb-map : (f : A → Bool) (g : B → Bool) (h : A → B) → ((x : A) → f x ≡ true → g (h x) ≡ true) → (xs : List A) → allb f xs ≡ true → allb g (map h xs) ≡ true
-  allb-map f g h w [] p = allb-none g
-  allb-map f g h w (x ∷ xs) p = allb-cons g (h x) (map h xs) (w x (allb-head f x xs p)) (allb-map f g h w xs (allb-tail f x xs p))
-
-  pub has-map : (f : B → Bool) (h : A → B) (xs : List A) → has f (map h xs) ≡ has (λ x. f (h x)) xs
-  unfolding has
-  has-map f h [] = refl
-  has-map f h (x ∷ xs) = rw (has-map f h xs)

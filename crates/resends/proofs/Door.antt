@@ -1,0 +1,240 @@
+-- The call, a return at a time: 1, 3, 12, and the rows sent again. Assumes nothing.
+use mathlib.Core.Path.{_≡_, refl, ap, sym, _∙_}
+use mathlib.Core.Bool.{Bool, true, false, not}
+use mathlib.Core.List.{List, [], _∷_, _++_, map}
+use Prim.Native.Nat.{ℕ, _+_, _*_, _≤_, _<_}
+use native.Mathlib.Omega.{arith}
+use borrow.Author.Tests.{le-leb, lt-leb, not-true, not-false}
+use lib.Dec.{leb}
+use lib.ListN.{length, take, drop, length-append, length-map}
+use Rattle.lists.specs.Pad.{pad}
+use Rattle.lists.proofs.Slot.{take-pad-map}
+use Rattle.packet.specs.declared.Resend.{Resend}
+use Rattle.model.specs.State as model
+use Rattle.model.specs.Refusals.{notWellFormed, timeBelow, listTooShort}
+use Rattle.model.specs.Rust.{resent, allRows, resentOff, resentOn}
+use Rattle.model.specs.Calls.{takeResends, Answer, refused, resends, flat, lent}
+use Rattle.model.specs.Port.{Reply, reply, resend, takeResendsS}
+use Rattle.channel.specs.declared.OffChannel.{OffChannel}
+use Rattle.channel.specs.declared.OnChannel.{OnChannel}
+use Rattle.channel.specs.Channel.{reprOff, reprOn}
+use Rattle.table.specs.declared.Table.{Table}
+use Rattle.table.specs.Table.{abs, repr, Wf, wfb, zeroOff, zeroOn}
+use Rattle.table.proofs.Test.{test-wf, form-offs, form-ons, form-offcount, form-oncount}
+use Rattle.table.proofs.Places.{few-offs, few-ons, off-wf-at, on-wf-at}
+use Rattle.calls.specs.declared.Resent.{Resent}
+use Rattle.calls.specs.Calls.{Outcome, tableReply, called, resentOf, resendsOf, resendsLent}
+use Rattle.calls.proofs.Called.{called-refused, called-granted, on-limit, on-index, off-limit, off-index}
+use Rattle.resends.specs.Resends.{offRows, onRows, offsSent, onsSent, writtenAt, OffsWf, OnsWf}
+use Rattle.resends.proofs.Lists.{flat-append, length-flat, written-after, length-written}
+
+-- a table with its time, or its time and its channels new
+abbrev pub atTime : ℕ → Table → Table
+atTime time t =
+    record {
+      latest = time;
+      forwarding = t .forwarding;
+      prefix = t .prefix;
+      offset = t .offset;
+      source = t .source;
+      offcount = t .offcount;
+      oncount = t .oncount;
+      offs = t .offs;
+      ons = t .ons;
+    }
+
+abbrev pub withChannels : List OffChannel → List OnChannel → Table → Table
+withChannels offs ons t =
+    record {
+      latest = t .latest;
+      forwarding = t .forwarding;
+      prefix = t .prefix;
+      offset = t .offset;
+      source = t .source;
+      offcount = t .offcount;
+      oncount = t .oncount;
+      offs = offs;
+      ons = ons;
+    }
+
+-- ---- 1
+
+module _ (t : Table) (time timeout giveUp : ℕ) (l : List ℕ) (x : Bool) (e : x ≡ wfb t) (h : not x ≡ true) where
+  unformed : called (takeResends time timeout giveUp l) t ≡ record { answer = refused notWellFormed; table = t }
+  unformed = called-refused (takeResends time timeout giveUp l) t (sym e ∙ not-true x h)
+
+  pub unformed-is : _≡_ {A = Resent} (record { table = t; code = 1; rows = 0 }) (resendsOf t time timeout giveUp l)
+  unfolding resendsOf
+  unformed-is = ap (λ (o : Outcome). resentOf o) (sym unformed)
+
+  pub unformed-lent : l ≡ resendsLent t time timeout giveUp l
+  unfolding resendsLent
+  unformed-lent = ap (λ (o : Outcome). lent (o .answer) l) (sym unformed)
+
+-- ---- a well-formed table
+
+module _ (t : Table) (x : Bool) (e : x ≡ wfb t) (h : not x ≡ false) where
+  formed : Wf t
+  formed = test-wf t (sym e ∙ not-false x h)
+
+  pub offs-form : OffsWf (t .offs) (t .offcount)
+  offs-form =
+      let w = formed in
+      let ms = abs t .protocol .offs in
+      let own : take (t .offcount) (t .offs) ≡ map reprOff ms = (λ i. take (form-offcount t w i) (form-offs t w i)) ∙ take-pad-map reprOff 4 zeroOff ms (few-offs t w) in
+      record {
+        few = off-limit t w;
+        each = λ i d k. off-wf-at t w i d (off-index t i w k);
+        spare = form-offs t w ∙ ap (λ (r : List OffChannel). pad 4 zeroOff r) (sym own);
+      }
+
+  pub ons-form : OnsWf (t .ons) (t .oncount)
+  ons-form =
+      let w = formed in
+      let ms = abs t .protocol .ons in
+      let own : take (t .oncount) (t .ons) ≡ map reprOn ms = (λ i. take (form-oncount t w i) (form-ons t w i)) ∙ take-pad-map reprOn 8 zeroOn ms (few-ons t w) in
+      record {
+        few = on-limit t w;
+        each = λ i d k. on-wf-at t w i d (on-index t i w k);
+        spare = form-ons t w ∙ ap (λ (r : List OnChannel). pad 8 zeroOn r) (sym own);
+      }
+
+-- ---- the rows, counted
+
+module _ (t : Table) (time timeout giveUp : ℕ) where
+  abbrev offs : List Resend
+  offs = offRows time timeout giveUp (t .offs) (t .offcount)
+
+  abbrev ons : List Resend
+  ons = onRows time timeout giveUp (t .ons) (t .oncount)
+
+  abbrev rows : List Resend
+  rows = allRows time timeout giveUp (abs t .protocol)
+
+  rows-are : rows ≡ offs ++ ons
+  unfolding allRows abs offRows onRows
+  rows-are = refl
+
+  module _ (a b : ℕ) (p : a ≡ length offs) (q : b ≡ length ons) where
+    rows-count : a + b ≡ length rows
+    rows-count = omega (arith, ap length rows-are, length-append offs ons)
+
+    numbers-count : length (flat rows) ≡ 2 * (a + b)
+    numbers-count = omega (arith, length-flat rows, rows-count)
+
+    pub offs-fit : (l : List ℕ) → 2 * (a + b) ≤ length l → length (flat offs) ≤ length l
+    offs-fit l h = omega (arith, length-flat offs)
+
+    pub ons-fit : (l l₁ : List ℕ) → 2 * (a + b) ≤ length l → l₁ ≡ writtenAt 0 (flat offs) l → 2 * a + length (flat ons) ≤ length l₁
+    ons-fit l l₁ h w =
+        omega (arith, length-flat offs, length-flat ons, ap length w, length-written 0 (flat offs) l (omega (arith, length-flat offs)))
+
+    -- both kinds written are all rows written
+    all-written : (l l₁ l₂ : List ℕ) → 2 * (a + b) ≤ length l → l₁ ≡ writtenAt 0 (flat offs) l → l₂ ≡ writtenAt (2 * a) (flat ons) l₁ → l₂ ≡ lent (resends rows) l
+    all-written l l₁ l₂ h v w =
+        let k : 2 * a ≡ 0 + length (flat offs) = omega (arith, length-flat offs) in
+        let f : flat offs ++ flat ons ≡ flat rows = sym (flat-append offs ons) ∙ ap flat (sym rows-are) in
+        let z : 0 + length (flat rows) ≡ length (flat rows) = omega arith in
+        w
+        ∙ (λ i. writtenAt (k i) (flat ons) (v i))
+        ∙ written-after 0 (flat offs) (flat ons) l (omega (arith, length-flat offs))
+        ∙ ap (λ (u : List ℕ). writtenAt 0 u l) f
+        ∙ ap (λ (n : ℕ). flat rows ++ drop n l) z
+
+-- ---- 3, 12, and granted
+
+module _ (t : Table) (time timeout giveUp : ℕ) (l : List ℕ) (x : Bool) (e : x ≡ wfb t) (h : not x ≡ false) where
+  abbrev answered : Reply
+  answered = takeResendsS time timeout giveUp (length l) (abs t)
+
+  granted : called (takeResends time timeout giveUp l) t ≡ tableReply answered
+  unfolding reply
+  granted = called-granted (takeResends time timeout giveUp l) t (sym e ∙ not-false x h)
+
+  answer-is : (r : Resent) → r ≡ resentOf (tableReply answered) → r ≡ resendsOf t time timeout giveUp l
+  unfolding resendsOf
+  answer-is r q = q ∙ ap (λ (o : Outcome). resentOf o) (sym granted)
+
+  lent-is : (out : List ℕ) → out ≡ lent (answered .answer) l → out ≡ resendsLent t time timeout giveUp l
+  unfolding resendsLent
+  lent-is out q = q ∙ ap (λ (o : Outcome). lent (o .answer) l) (sym granted)
+
+  abbrev places : Bool
+  places = leb (length (flat (rows t time timeout giveUp))) (length l)
+
+  module _ (late : time < t .latest) where
+    late-reply : answered ≡ record { answer = refused timeBelow; state = abs t }
+    unfolding takeResendsS abs
+    late-reply = let q = lt-leb (t .latest) time late in λ i. resend (q i) places time timeout giveUp (abs t)
+
+    pub late-is : _≡_ {A = Resent} (record { table = t; code = 3; rows = 0 }) (resendsOf t time timeout giveUp l)
+    late-is =
+        let w = formed t x e h in
+        answer-is
+        (record { table = t; code = 3; rows = 0 })
+        ((λ i. record { table = w .form i; code = 3; rows = 0 }) ∙ ap (λ (r : Reply). resentOf (tableReply r)) (sym late-reply))
+
+    pub late-lent : l ≡ resendsLent t time timeout giveUp l
+    late-lent = lent-is l (ap (λ (r : Reply). lent (r .answer) l) (sym late-reply))
+
+  module _ (now : t .latest ≤ time) (a b : ℕ) (p : a ≡ length (offs t time timeout giveUp)) (q : b ≡ length (ons t time timeout giveUp)) where
+    module _ (short : length l < 2 * (a + b)) where
+      short-reply : answered ≡ record { answer = refused listTooShort; state = model.withTime time (abs t) }
+      unfolding takeResendsS abs
+      short-reply =
+          let m = le-leb (t .latest) time now in
+          let n = lt-leb (length (flat (rows t time timeout giveUp))) (length l) (omega (arith, numbers-count t time timeout giveUp a b p q)) in
+          λ i. resend (m i) (n i) time timeout giveUp (abs t)
+
+      pub short-is : _≡_ {A = Resent} (record { table = atTime time t; code = 12; rows = 0 }) (resendsOf t time timeout giveUp l)
+      unfolding repr
+      short-is =
+          let w = formed t x e h in
+          answer-is
+          (record { table = atTime time t; code = 12; rows = 0 })
+          ((λ i. record { table = atTime time (w .form i); code = 12; rows = 0 }) ∙ ap (λ (r : Reply). resentOf (tableReply r)) (sym short-reply))
+
+      pub short-lent : l ≡ resendsLent t time timeout giveUp l
+      short-lent = lent-is l (ap (λ (r : Reply). lent (r .answer) l) (sym short-reply))
+
+    module _ (room : 2 * (a + b) ≤ length l) where
+      abbrev after : model.State
+      after = model.withProtocol (resent time timeout giveUp (abs t .protocol)) (model.withTime time (abs t))
+
+      sent-reply : answered ≡ record { answer = resends (rows t time timeout giveUp); state = after }
+      unfolding takeResendsS abs
+      sent-reply =
+          let m = le-leb (t .latest) time now in
+          let n = le-leb (length (flat (rows t time timeout giveUp))) (length l) (omega (arith, numbers-count t time timeout giveUp a b p q)) in
+          λ i. resend (m i) (n i) time timeout giveUp (abs t)
+
+      sent-table : (y : List OffChannel) (z : List OnChannel) → y ≡ offsSent time timeout giveUp (t .offs) (t .offcount) → z ≡ onsSent time timeout giveUp (t .ons) (t .oncount) → withChannels y z (atTime time t) ≡ repr after
+      unfolding repr abs resent offsSent onsSent
+      sent-table y z u v =
+          let w = formed t x e h in
+          let m : t .offcount ≡ length (map (resentOff time timeout giveUp) (abs t .protocol .offs)) = form-offcount t w ∙ sym (length-map (abs t .protocol .offs) (resentOff time timeout giveUp)) in
+          let n : t .oncount ≡ length (map (resentOn time timeout giveUp) (abs t .protocol .ons)) = form-oncount t w ∙ sym (length-map (abs t .protocol .ons) (resentOn time timeout giveUp)) in
+          λ i. record {
+            latest = time;
+            forwarding = w .form i .forwarding;
+            prefix = t .prefix;
+            offset = t .offset;
+            source = t .source;
+            offcount = m i;
+            oncount = n i;
+            offs = u i;
+            ons = v i;
+          }
+
+      pub sent-is : (y : List OffChannel) (z : List OnChannel) → y ≡ offsSent time timeout giveUp (t .offs) (t .offcount) → z ≡ onsSent time timeout giveUp (t .ons) (t .oncount)
+          → _≡_ {A = Resent} (record { table = withChannels y z (atTime time t); code = 0; rows = a + b }) (resendsOf t time timeout giveUp l)
+      sent-is y z u v =
+          let n = rows-count t time timeout giveUp a b p q in
+          let f = sent-table y z u v in
+          answer-is
+          (record { table = withChannels y z (atTime time t); code = 0; rows = a + b })
+          ((λ i. record { table = f i; code = 0; rows = n i }) ∙ ap (λ (r : Reply). resentOf (tableReply r)) (sym sent-reply))
+
+      pub sent-lent : (l₁ l₂ : List ℕ) → l₁ ≡ writtenAt 0 (flat (offs t time timeout giveUp)) l → l₂ ≡ writtenAt (2 * a) (flat (ons t time timeout giveUp)) l₁ → l₂ ≡ resendsLent t time timeout giveUp l
+      sent-lent l₁ l₂ u v =
+          lent-is l₂ (all-written t time timeout giveUp a b p q l l₁ l₂ room u v ∙ ap (λ (r : Reply). lent (r .answer) l) (sym sent-reply))
