@@ -3,7 +3,9 @@
 
     check/compare.py --oracle target/oracle/original --scripts 20000 --seed 1
     check/compare.py --oracle target/oracle/original --one 17       one script, shown with both answers
-    check/compare.py --driver 'path/to/driver' --scripts 500        a driver program, in the driver's own language
+    check/compare.py --driver 'tools/run driver' --oracle target/oracle/original --scripts 2000
+                                                                    the same for a driver program: the scripts' lines in the
+                                                                    driver's own language are put to all three
     check/compare.py --stored                                       the stored scripts of check/scripts, on the model and on
                                                                     whatever else is named
     check/compare.py --oracle target/oracle/original --store        makes their answers anew
@@ -25,6 +27,7 @@ import subprocess
 import sys
 import time
 from collections import Counter
+from concurrent.futures import ThreadPoolExecutor
 
 sys.path.insert(0, os.path.dirname(os.path.abspath(__file__)))
 import make
@@ -214,8 +217,9 @@ def differs(oracle, played):
     return asked[k] if k < len(asked) else b"", at(expected), at(said)
 
 
-def driver_differs(program, data):
-    answers = Driver().run(data).decode().split("\n")[:-1]
+def driver_differs(program, data, answers=None):
+    """The same for a driver program, whose answers must be the model's."""
+    answers = Driver().run(data).decode().split("\n")[:-1] if answers is None else answers
     said = run(program, data)
     k = first_difference(answers, said)
     if k is None:
@@ -293,62 +297,74 @@ def without_other_calls(data):
 
 
 def compare(oracle, driver, first, count):
-    families, reached, compared, asked, failures = Counter(), Counter(), Counter(), 0, 0
+    """With a driver program the scripts are in its own language, and the original and the driver are both asked."""
+    families, reached, compared, asked, answers, failures = Counter(), Counter(), Counter(), 0, Counter(), 0
     began = time.time()
-    batch = []
+    batch, runs = [], ThreadPoolExecutor(os.cpu_count())
+
+    def replay(data, seed):
+        return play(data, probing(seed), wide=not driver)
 
     def settle():
         nonlocal failures
-        if not oracle or not batch:
-            batch.clear()
-            return
-        said = run(oracle, b"".join(played.script() for _, _, _, played in batch))
-        expected = [e for _, _, _, played in batch for e in played.expected()]
-        if first_difference(expected, said) is not None:
-            before = failures
-            for seed, name, data, _ in batch:
-                found = lambda d: differs(oracle, play(d, probing(seed)))
-                if found(data):
-                    report(seed, name, data, found)
-                    failures += 1
-            if failures == before:
-                print(f"DISAGREEMENT between scripts {batch[0][0]} and {batch[-1][0]}, in none of them by itself")
+        if oracle and batch:
+            said = run(oracle, b"".join(played.script() for _, _, _, played, _ in batch))
+            expected = [e for _, _, _, played, _ in batch for e in played.expected()]
+            if first_difference(expected, said) is not None:
+                failures += singly()
+        for seed, name, data, _, driven in batch:
+            if driven and driven.result():
+                report(seed, name, data, lambda d: driver_differs(driver, d))
                 failures += 1
         batch.clear()
 
+    def singly():
+        """A batch that differs, script by script."""
+        found = 0
+        for seed, name, data, _, _ in batch:
+            differing = lambda d: differs(oracle, replay(d, seed))
+            if differing(data):
+                report(seed, name, data, differing)
+                found += 1
+        if not found:
+            print(f"DISAGREEMENT between scripts {batch[0][0]} and {batch[-1][0]}, in none of them by itself")
+        return max(1, found)
+
     for seed in range(first, first + count):
         name, data, played = made(seed)
+        if driver:
+            data = without_other_calls(data)
+            played = replay(data, seed)
         families[name] += 1
         reached.update(played.reached)
         compared.update(played.compared)
         asked += sum(1 for entry in played.asked if entry)
-        batch.append((seed, name, data, played))
+        answers.update(" ".join(answer.split(" ")[: 2 if answer.startswith("no ") else 1]) for answer in played.answers)
+        driven = runs.submit(driver_differs, driver, data, played.answers) if driver else None
+        batch.append((seed, name, data, played, driven))
         if len(batch) == 200 or failures:
             settle()
-        if driver:
-            plain = without_other_calls(data)
-            if driver_differs(driver, plain):
-                report(seed, name, plain, lambda d: driver_differs(driver, d))
-                failures += 1
         if failures >= 5:
             break
     settle()
+    runs.shutdown()
     print(f"seeds {first} to {first + count - 1}: {sum(families.values())} scripts in {time.time() - began:.0f} s")
     print("families: " + ", ".join(f"{name} {families[name]}" for name in sorted(families)))
     if oracle:
         print(f"lines put to the original: {asked}")
     if driver:
-        print(f"scripts put to the driver: {sum(families.values())}")
+        print(f"answers of the driver: {sum(answers.values())}: " + ", ".join(f"{n} {name}" for name, n in answers.most_common()))
     return failures, reached, compared
 
 
-def coverage(reached, compared, oracle):
+def coverage(reached, compared, oracle, driver):
     """Prints the counts. Answers the names of what was never reached, or never put to the original though it could be."""
     print("reached by the model, and so in a line that was put to the original:")
+    wanted = [name for name in model.EXPECTED if not driver or not other(name)]
     missing = []
-    for name in model.EXPECTED + sorted(set(reached) - set(model.EXPECTED)):
+    for name in wanted + sorted(set(reached) - set(wanted)):
         print(f"  {reached[name]:9} {compared[name]:9}  {name}")
-        if name in model.EXPECTED and not (compared if oracle and not withheld(name) else reached)[name]:
+        if name in wanted and not (compared if oracle and not withheld(name) else reached)[name]:
             missing.append(name)
     return missing
 
@@ -359,6 +375,14 @@ def withheld(name):
         return int(name.split(" ")[-1]) in ADDED
     ours = "limit passed", "driver: last line", "driver: cut", "driver: ninth", "delivery: earlier one malformed"
     return name.startswith(ours + ("delivery: earlier one refused by the port", "grouping: no range"))
+
+
+def other(name):
+    """Whether a rule is one that only the other calls reach, or only on what they leave."""
+    calls = "out:", "send:", "written:", "resends:", "find:", "prefix", "reset", "transfer", "held:"
+    refusals = tuple("refusal: " + call for call in ("forwarded", "find", "next bundle 12", "send", "acks written", "resends"))
+    left = "2 cumulative", "3 ack removes", "3 ack of a number", "4 observe", "limit reached: out", "limit passed: out"
+    return name.startswith(calls + refusals + left)
 
 
 # ---- Stored scripts
@@ -434,7 +458,7 @@ def main():
         return 1
     if given.quiet:
         return 0
-    missing = coverage(reached, compared, oracle)
+    missing = coverage(reached, compared, oracle, driver)
     if missing:
         print("NEVER REACHED: " + ", ".join(missing))
         return 1

@@ -143,7 +143,7 @@ fn read_pair(line: &[u8], w: &[u8]) -> Pair
     }
 }
 
-fn no_record() -> Record
+pub fn no_record() -> Record
     ensures { λ r. ⌜ r ≡ noRecord ⌝ }
 {
     Record {

@@ -73,7 +73,7 @@ put-put old s t at h =
     ∙ ap (λ (x : List ℕ). p ++ t ++ x) b
     ∙ ap (λ (x : List ℕ). x ++ drop (at + length (s ++ t)) old) (append-assoc (take at old) s t)
 
-then : (x y z : ℕ) (a b c s t : List ℕ) (at j k : ℕ) → at ≤ length a → x + y ≤ z → Wrote x a b at j s → Wrote y b c j k t → Wrote z a c at k (s ++ t)
+pub then : (x y z : ℕ) (a b c s t : List ℕ) (at j k : ℕ) → at ≤ length a → x + y ≤ z → Wrote x a b at j s → Wrote y b c j k t → Wrote z a c at k (s ++ t)
 then x y z a b c s t at j k h r p q =
     record {
       place = omega (arith, p .place, q .place, length-append s t);
@@ -81,7 +81,8 @@ then x y z a b c s t at j k h r p q =
       list = q .list ∙ ap (λ (i : ℕ). put i t b) (p .place) ∙ ap (λ (l : List ℕ). put (at + length s) t l) (p .list) ∙ put-put a s t at h;
     }
 
-retold : (x y : ℕ) (a b s t : List ℕ) (at k : ℕ) → s ≡ t → x ≤ y → Wrote x a b at k s → Wrote y a b at k t
+-- the same text in other words, with more room
+pub retold : (x y : ℕ) (a b s t : List ℕ) (at k : ℕ) → s ≡ t → x ≤ y → Wrote x a b at k s → Wrote y a b at k t
 retold x y a b s t at k e r w =
     record {
       place = w .place ∙ ap (λ (l : List ℕ). at + length l) e;

@@ -1,0 +1,87 @@
+-- A whole input: "read up to 60,000 bytes, one command a line", and its answers in order.
+use mathlib.Core.Path.{_≡_}
+use mathlib.Core.Bool.{cond}
+use mathlib.Core.List.{List, [], _∷_, _++_}
+use Prim.Native.Nat.{ℕ, suc, _≤_, _<_}
+use lib.Dec.{ltb, eqb}
+use lib.ListN.{length, take, drop}
+use Rattle.writing.specs.Answers.{badLine}
+use Rattle.writing.specs.Wrote.{Wrote}
+use Rattle.script.specs.declared.State.{State}
+use Rattle.script.specs.declared.Ran.{Ran}
+use Rattle.script.specs.Script.{start, stepOf}
+
+-- ---- lines
+
+-- the lines that have their line feed, without it, and what stands behind the last line feed
+pub record Cut : Type 0 where
+  pub lines : List (List ℕ)
+  pub rest : List ℕ
+
+-- a byte in front: it belongs to the first line, or where there is none to the rest
+abbrev pub inFront : ℕ → List (List ℕ) → List ℕ → Cut
+inFront b [] rest = record { lines = []; rest = b ∷ rest }
+inFront b (l ∷ ls) rest = record { lines = (b ∷ l) ∷ ls; rest = rest }
+
+unfoldable pub cutOf : List ℕ → Cut
+cutOf [] = record { lines = []; rest = [] }
+cutOf (b ∷ bs) =
+    cond (eqb b 10)
+    (record { lines = [] ∷ cutOf bs .lines; rest = cutOf bs .rest })
+    (inFront b (cutOf bs .lines) (cutOf bs .rest))
+
+-- ---- answers
+
+unfoldable pub answers : State → List (List ℕ) → List ℕ
+answers s [] = []
+answers s (l ∷ ls) = stepOf s l .text ++ answers (stepOf s l .state) ls
+
+-- "A last line without its line feed is `bad`"; where nothing stands behind the last line feed there is none
+abbrev pub unfinished : List ℕ → List ℕ
+unfinished [] = []
+unfinished (b ∷ bs) = badLine
+
+abbrev pub cutAnswers : State → Cut → List ℕ
+cutAnswers s c = answers s (c .lines) ++ unfinished (c .rest)
+
+-- what is answered to an input that begins at this state
+unfoldable pub runFrom : State → List ℕ → List ℕ
+runFrom s input = cutAnswers s (cutOf input)
+
+-- "Standard input, read up to 60,000 bytes"
+unfoldable pub read : List ℕ → List ℕ
+read input = take 60000 input
+
+-- all that the driver writes
+unfoldable pub runOf : List ℕ → List ℕ
+runOf input = runFrom start (read input)
+
+-- ---- what the code does on the way
+
+-- how many bytes stand before the first line feed, all of them where there is none
+unfoldable pub feedAt : List ℕ → ℕ
+feedAt [] = 0
+feedAt (b ∷ bs) = cond (eqb b 10) 0 (suc (feedAt bs))
+
+abbrev pub cut : ℕ → ℕ
+cut n = cond (ltb n 60000) n 60000
+
+-- from r to x some lines were read, and their answers, the text, stand in the buffer
+pub record Turned (r : Ran) (input old new : List ℕ) (x : Ran) : Type 0 where
+  pub text : List ℕ
+  pub said : runFrom (r .state) (drop (r .at) input) ≡ text ++ runFrom (x .state) (drop (x .at) input)
+  pub wrote : Wrote 800 old new (r .len) (x .len) text
+  pub on : r .at < x .at
+
+-- what was written, and then what is answered from x on, is all that is answered from `from` on; the rest of the buffer keeps its
+-- contents. A line at least is read where one is left, so that whoever calls again comes to the end
+pub record Told (s : State) (input : List ℕ) (from : ℕ) (old new : List ℕ) (x : Ran) : Type 0 where
+  pub said : runFrom s (drop from input) ≡ take (x .len) new ++ runFrom (x .state) (drop (x .at) input)
+  pub kept : drop (x .len) new ≡ drop (x .len) old
+  pub within : x .len ≤ length new
+  pub on : from < length input → from < x .at
+
+-- what whoever writes the answers part by part has still to write: all of them are those written so far, and then the rest
+pub record Left (input : List ℕ) (s : State) (at : ℕ) : Type 0 where
+  pub written : List ℕ
+  pub all : runOf input ≡ written ++ runFrom s (drop at (read input))
