@@ -1,14 +1,16 @@
 -- What the calls share: refusal 1 or the model's reply, and the channel that a key names, found, read and stored in a table at its place.
 -- Assumes nothing.
-use mathlib.Core.Path.{_≡_, refl, ap, sym, _∙_}
-use mathlib.Core.Bool.{true, false}
+use mathlib.Core.Path.{_≡_, ap, sym, _∙_}
+use mathlib.Core.Bool.{Bool, true, false, not}
 use Prim.Native.Nat.{ℕ, _+_, _≤_, _<_}
 use native.Mathlib.Omega.{arith}
-use borrow.Author.Tests.{eq-eqb, ne-eqb}
+use borrow.Author.Tests.{eq-eqb, ne-eqb, not-false}
 use lib.ListN.{length, getD}
+use Rattle.lists.specs.Find.{findBy, putBy}
+use Rattle.lists.proofs.Find.{find-put}
 use Rattle.lists.proofs.Slot.{has-of-slot, absent-of-slot}
 use Rattle.packet.specs.declared.Key.{Key}
-use Rattle.packet.specs.Data.{keyIndex}
+use Rattle.packet.specs.Data.{keyIndex, keyMade}
 use Rattle.model.specs.State as model
 use Rattle.model.specs.Room.{fitsOff, fitsOn}
 use Rattle.model.specs.Rust.{firstVersion, keyOn, keyOff, made, hasKey, dataOf, putData}
@@ -17,10 +19,12 @@ use Rattle.model.specs.Port.{reply, answerOne}
 use Rattle.kept.proofs.Table.{on-at-address, on-at-index, off-at-address}
 use Rattle.channel.specs.declared.OffChannel.{OffChannel}
 use Rattle.channel.specs.declared.OnChannel.{OnChannel}
-use Rattle.channel.specs.Channel.{reprOff, reprOn}
+use Rattle.channel.specs.Channel.{absOff, reprOff, absOn, reprOn}
+use Rattle.channel.proofs.Laws.{abs-repr-off, abs-repr-on}
 use Rattle.table.specs.declared.Table.{Table}
 use Rattle.table.specs.Table.{abs, repr, Wf, wfb}
 use Rattle.table.proofs.Laws.{onPlace, offPlace, on-here, off-here, storeOn, storeOff, put-on-old, put-off-old, put-on-new, put-off-new}
+use Rattle.table.proofs.Test.{test-wf}
 use Rattle.table.proofs.Places.{few-offs, few-ons, off-at-fits, on-at-fits}
 use Rattle.calls.specs.Calls.{tableReply, called}
 
@@ -33,6 +37,24 @@ called-refused e t h = rw h
 pub called-granted : (e : Call) (t : Table) → wfb t ≡ true → called e t ≡ tableReply (reply e (abs t))
 unfolding called
 called-granted e t h = rw h
+
+-- what the tests in front of a call leave in hand
+pub tested : (t : Table) (b : Bool) → b ≡ wfb t → not b ≡ false → Wf t
+tested t b e h = test-wf t (sym e ∙ not-false b h)
+
+pub key-tested : (k : Key) (b : Bool) → b ≡ keyMade k → not b ≡ false → keyMade k ≡ true
+key-tested k b e h = sym e ∙ not-false b h
+
+-- ---- a channel put into a state is found there
+
+pub on-found : (a i v : ℕ) (x : model.OnChannel) (p : model.Protocol) → x .address ≡ a → x .index ≡ i → model.onAt a i v (model.putOn x p) ≡ x
+on-found a i v x p ka ki =
+    (λ j. findBy (model.isOn a i) (model.newOn a i v) (putBy (model.isOn (ka j) (ki j)) x (p .ons)))
+    ∙ find-put (model.isOn a i) (model.newOn a i v) x (p .ons) (rw (eq-eqb (x .address) a ka, eq-eqb (x .index) i ki))
+
+pub off-found : (a : ℕ) (x : model.OffChannel) (p : model.Protocol) → x .address ≡ a → model.offAt a (model.putOff x p) ≡ x
+off-found a x p ka =
+    (λ j. findBy (model.isOff a) (model.newOff a) (putBy (model.isOff (ka j)) x (p .offs))) ∙ find-put (model.isOff a) (model.newOff a) x (p .offs) (eq-eqb (x .address) a ka)
 
 -- ---- any table that is the form of a state within the limits: the channel of a key is there exactly where its place is below the
 -- count; what stands there; and the table with a channel stored there
@@ -122,6 +144,10 @@ keyPlaceOn k s = onPlace (k .address) (keyIndex k) s
 abbrev pub keyPlaceOff : Key → model.State → ℕ
 keyPlaceOff k s = offPlace (k .address) s
 
+-- its index is looked up first
+pub key-placed : (k : Key) (s : model.State) (i at : ℕ) → i ≡ keyIndex k → at ≡ onPlace (k .address) i s → at ≡ keyPlaceOn k s
+key-placed k s i at e q = q ∙ ap (λ (j : ℕ). onPlace (k .address) j s) e
+
 -- ---- a channel named by a key in a well-formed table
 
 module _ (t : Table) (w : Wf t) (k : Key) where
@@ -169,6 +195,28 @@ module _ (t : Table) (w : Wf t) (k : Key) where
       ap (λ (i : ℕ). storeOff t (t .offcount) i (reprOff (model.offWith d c))) (sym x)
       ∙ off-store (abs t) t (w .form) (few-offs t w) (model.offWith d c) (omega (arith, x))
       ∙ ap (λ (q : model.Protocol). repr (model.withProtocol q (abs t))) (sym (off-key-put k p o d))
+
+-- ---- the channel that stands at the key's place, where that is below the count
+
+module _ (t : Table) (w : Wf t) (k : Key) (i at : ℕ) (x : i ≡ keyIndex k) (q : at ≡ onPlace (k .address) i (abs t)) (h : at < t .oncount) where
+  pub on-standing-below : keyPlaceOn k (abs t) < t .oncount
+  on-standing-below = omega (arith, key-placed k (abs t) i at x q)
+
+  pub on-standing : (d : OnChannel) → getD (t .ons) at d ≡ reprOn (keyOn k (abs t .protocol))
+  on-standing d = ap (λ (j : ℕ). getD (t .ons) j d) (key-placed k (abs t) i at x q) ∙ on-key-read t w k d on-standing-below
+
+  pub on-standing-abs : (d : OnChannel) → absOn (getD (t .ons) at d) ≡ keyOn k (abs t .protocol)
+  on-standing-abs d = ap (λ (c : OnChannel). absOn c) (on-standing d) ∙ abs-repr-on (keyOn k (abs t .protocol)) (on-key-fits t w k)
+
+module _ (t : Table) (w : Wf t) (k : Key) (at : ℕ) (q : at ≡ offPlace (k .address) (abs t)) (h : at < t .offcount) where
+  pub off-standing-below : keyPlaceOff k (abs t) < t .offcount
+  off-standing-below = omega (arith, q)
+
+  pub off-standing : (d : OffChannel) → getD (t .offs) at d ≡ reprOff (keyOff k (abs t .protocol))
+  off-standing d = ap (λ (j : ℕ). getD (t .offs) j d) q ∙ off-key-read t w k d off-standing-below
+
+  pub off-standing-abs : (d : OffChannel) → absOff (getD (t .offs) at d) ≡ keyOff k (abs t .protocol)
+  off-standing-abs d = ap (λ (c : OffChannel). absOff c) (off-standing d) ∙ abs-repr-off (keyOff k (abs t .protocol)) (off-key-fits t w k)
 
 -- ---- for the indices of the code
 

@@ -1,2 +1,4 @@
 pub mod Called
 pub mod Room
+pub mod Placing
+pub mod Timed

@@ -1,6 +1,5 @@
 -- The numbers of an answer: 01's refusal number, 0 where the call is granted, and the values, zero where the answer has none.
-use mathlib.Core.Bool.{Bool, true, false, cond}
-use mathlib.Core.List.{List}
+use mathlib.Core.Bool.{cond}
 use Prim.Native.Nat.{ℕ}
 use lib.ListN.{length}
 use Rattle.packet.specs.declared.View.{View}

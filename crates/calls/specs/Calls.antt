@@ -6,7 +6,6 @@ use Prim.Native.Nat.{ℕ}
 use Rattle.packet.specs.declared.Record.{Record}
 use Rattle.packet.specs.declared.Key.{Key}
 use Rattle.packet.specs.Data.{noRecord}
-use Rattle.model.specs.State as model
 use Rattle.lists.specs.Pad.{pad}
 use Rattle.model.specs.Calls.{Call, accept, acceptOut, channel, nextBundle, prepare, acksWritten, takeResends, holds, lastAcceptedPrefix, resetPrefixOffset, transferPrefixOffset, Answer, lent}
 use Rattle.model.specs.Port.{Reply, reply, answerOne}

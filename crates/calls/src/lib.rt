@@ -1,9 +1,14 @@
-// What the public calls take and answer, as structs; specs/ says what each call answers and leaves, for every table and input.
+// What the public calls take and answer, as structs, and the place of a channel; specs/ says what each call answers and leaves, for every
+// table and input.
+use packet::Key;
 use packet::Prepared;
 use packet::Record;
 use packet::View;
 use table::Table;
 ghost use mathlib.Core.Path.{_≡_};
+ghost use Rattle.packet.specs.Data.{keyIndex};
+ghost use Rattle.table.specs.Table.{abs, Wf};
+ghost use Rattle.calls.specs.Places.{placeOn, placeOff};
 
 // A delivery: the first `count` of the records, piggybacks before their carrier.
 #[repr(C)]
@@ -75,8 +80,33 @@ pub struct Prefix {
     pub prefix: u32,
 }
 
-pub fn zero() -> u32
-    ensures { λ r. ⌜ r ≡ 0 ⌝ }
+// ---- a channel's place in the table
+
+// The index that a key names, 0 where it names none.
+pub fn index_of(k: Key) -> u32
+    ensures { λ r. ⌜ r ≡ keyIndex k ⌝ }
 {
+    if k.indexed == 1 {
+        return k.index;
+    }
     0
+}
+
+// Where the channel of that address and index stands, or the count where it is absent.
+pub fn on_place(t: Table, address: u32, index: u32) -> usize
+    requires { ⌜ Wf t ⌝ }
+    ensures { λ r. ⌜ r ≡ placeOn address index (abs t) ⌝ }
+{
+    let keys = table::keys_of(t);
+    let l = keys.ons;
+    table::on_slot(l, t.oncount as usize, address, index)
+}
+
+pub fn off_place(t: Table, address: u32) -> usize
+    requires { ⌜ Wf t ⌝ }
+    ensures { λ r. ⌜ r ≡ placeOff address (abs t) ⌝ }
+{
+    let keys = table::keys_of(t);
+    let l = keys.offs;
+    table::off_slot(l, t.offcount as usize, address)
 }

@@ -1,12 +1,10 @@
 -- Find or create: what each return owes, over plain values. Assumes nothing.
-use mathlib.Core.Path.{_≡_, refl, ap, sym, _∙_}
+use mathlib.Core.Path.{_≡_, ap, sym, _∙_}
 use mathlib.Core.Bool.{Bool, true, false, cond, not}
 use Prim.Native.Nat.{ℕ, _+_, _≤_, _<_}
 use borrow.Author.Tests.{eq-eqb, ne-eqb, not-true, not-false}
 use lib.Dec.{ltb}
 use lib.ListN.{getD}
-use Rattle.lists.specs.Find.{findBy, putBy}
-use Rattle.lists.proofs.Find.{find-put}
 use Rattle.packet.specs.declared.Key.{Key}
 use Rattle.packet.specs.declared.View.{View}
 use Rattle.packet.specs.Data.{isSet, keyIndex, keyMade}
@@ -23,23 +21,14 @@ use Rattle.channel.proofs.Laws.{abs-repr-off, abs-repr-on}
 use Rattle.table.specs.declared.Table.{Table}
 use Rattle.table.specs.Table.{abs, repr, Wf, wfb}
 use Rattle.table.proofs.Laws.{storeOn, storeOff}
-use Rattle.table.proofs.Test.{test-wf}
 use Rattle.calls.specs.declared.Found.{Found}
-use Rattle.calls.specs.Calls.{Outcome, tableReply, called, foundOf, channelOf}
-use Rattle.calls.proofs.Called.{called-refused, called-granted, on-key-made, off-key-made, on-key-fits, off-key-fits}
-use Rattle.forward.specs.Forward.{placeOn, placeOff, refusedBy, foundIn}
+use Rattle.calls.specs.Calls.{Outcome, tableReply, foundOf, channelOf}
+use Rattle.calls.proofs.Called.{called-refused, called-granted, tested, on-found, off-found, on-key-made, off-key-made, on-key-fits, off-key-fits}
+use Rattle.calls.specs.Places.{placeOn, placeOff}
+use Rattle.forward.specs.Forward.{refusedBy, foundIn}
 use Rattle.forward.proofs.Places.{wf-fits, on-room, off-room, on-full, off-full, on-taken, off-taken, on-stored, off-stored}
 
--- ---- a channel put into a state is found there
-
-pub on-found : (a i v : ℕ) (x : model.OnChannel) (p : model.Protocol) → x .address ≡ a → x .index ≡ i → model.onAt a i v (model.putOn x p) ≡ x
-on-found a i v x p ka ki =
-    (λ j. findBy (model.isOn a i) (model.newOn a i v) (putBy (model.isOn (ka j) (ki j)) x (p .ons)))
-    ∙ find-put (model.isOn a i) (model.newOn a i v) x (p .ons) (rw (eq-eqb (x .address) a ka, eq-eqb (x .index) i ki))
-
-pub off-found : (a : ℕ) (x : model.OffChannel) (p : model.Protocol) → x .address ≡ a → model.offAt a (model.putOff x p) ≡ x
-off-found a x p ka =
-    (λ j. findBy (model.isOff a) (model.newOff a) (putBy (model.isOff (ka j)) x (p .offs))) ∙ find-put (model.isOff a) (model.newOff a) x (p .offs) (eq-eqb (x .address) a ka)
+-- ---- what is answered of a channel found or made
 
 on-view-made : (k : Key) (p : model.Protocol) → k .on ≡ 1 → keyView k (made k p) ≡ model.onView (keyOn k p)
 on-view-made k p o =
@@ -138,12 +127,6 @@ find-off-made t k at n z d v w m o e h q vq nq =
     made-is t (storeOff t n at d) k v m (ap (λ (b : Bool). hasPlace b a (keyIndex k) p) (ne-eqb (k .on) 1 o) ∙ off-room a (keyIndex k) at s e h) u y
 
 -- ---- the whole call: 1, 2, and the rest
-
-pub tested : (t : Table) (b : Bool) → b ≡ wfb t → not b ≡ false → Wf t
-tested t b e h = test-wf t (sym e ∙ not-false b h)
-
-pub key-tested : (k : Key) (b : Bool) → b ≡ keyMade k → not b ≡ false → keyMade k ≡ true
-key-tested k b e h = sym e ∙ not-false b h
 
 pub channel-unformed : (t : Table) (k : Key) (b : Bool) (f : Found) → b ≡ wfb t → not b ≡ true → f ≡ refusedBy t 1 → f ≡ channelOf t k
 unfolding channelOf

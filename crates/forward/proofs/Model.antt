@@ -1,20 +1,20 @@
 -- Forwarded out, by its channel alone: the model's reply on the whole state is the outcome on the record's channel, put back at its place
 -- at the new time. Assumes nothing.
-use mathlib.Core.Path.{_≡_, refl, ap, sym, _∙_}
-use mathlib.Core.Bool.{Bool, true, false, _||_}
+use mathlib.Core.Path.{_≡_, refl, ap, _∙_}
+use mathlib.Core.Bool.{Bool, true, false}
 use Prim.Native.Nat.{ℕ}
 use Rattle.packet.specs.declared.Record.{Record}
 use Rattle.packet.specs.Data.{isSet, wellMade, indexOf, versionOf}
-use Rattle.model.specs.State.{OffChannel, OnChannel, Protocol, State, withTime, withProtocol, hasOff, hasOn, offWith, offAt, onAt, putOff, putOn, offView, onView}
+use Rattle.model.specs.State.{OffChannel, OnChannel, Protocol, State, withTime, withProtocol, offWith, offAt, onAt, putOff, putOn, offView, onView}
 use Rattle.model.specs.Refusals.{outOfRange, timeBelow, tableFull, cumulativeOff, overLimit}
 use Rattle.model.specs.Record.{Outcome, granted}
-use Rattle.model.specs.Room.{fitsOff, fitsOn, fits, offRoom, onRoom}
+use Rattle.model.specs.Room.{fitsOff, fitsOn, fits}
 use Rattle.model.specs.Rust as rust
-use Rattle.model.specs.Calls.{Answer, refused, found}
-use Rattle.model.specs.Port.{Reply, grant, refuse, outStages, recordChannel, roomOut, judgeOut, onTime, hasPlace, forward, acceptOutS}
+use Rattle.model.specs.Calls.{refused, found}
+use Rattle.model.specs.Port.{Reply, grant, recordChannel, roomOut, judgeOut, onTime, hasPlace, forward, acceptOutS}
 use Rattle.kept.proofs.Table.{on-at-address, on-at-index, off-at-address}
+use Rattle.calls.proofs.Called.{on-found, off-found}
 use Rattle.calls.proofs.Room.{fits-put-on, fits-put-off}
-use Rattle.forward.proofs.Find.{on-found, off-found}
 
 -- the record's channel, found or new
 abbrev pub onFor : ℕ → Record → State → OnChannel

@@ -3,7 +3,7 @@ use mathlib.Core.Path.{_≡_, refl, ap, sym, subst, _∙_}
 use mathlib.Core.Bool.{Bool, true, false, cond, not}
 use Prim.Native.Nat.{ℕ, _+_, _≤_, _<_}
 use native.Mathlib.Omega.{arith}
-use borrow.Author.Tests.{eq-eqb, ne-eqb, le-leb, lt-leb, not-true, not-false}
+use borrow.Author.Tests.{eq-eqb, ne-eqb, lt-leb, not-true, not-false}
 use lib.Dec.{ltb}
 use lib.ListN.{getD}
 use Rattle.packet.specs.declared.Record.{Record}
@@ -12,13 +12,10 @@ use Rattle.packet.specs.Data.{isSet, wellMade, indexOf, versionOf}
 use Rattle.model.specs.State as model
 use Rattle.model.specs.Refusals.{outOfRange, timeBelow, tableFull, cumulativeOff}
 use Rattle.model.specs.Record.{granted}
-use Rattle.model.specs.Room.{fitsOff, fitsOn, fits}
-use Rattle.model.specs.Wellformed.{good, wellFormed}
+use Rattle.model.specs.Room.{fitsOff, fitsOn}
 use Rattle.model.specs.Rust.{forwardOn, forwardOff}
 use Rattle.model.specs.Calls as calls
-use Rattle.model.specs.Port.{Reply, hasPlace, onTime, acceptOutS, reply}
-use Rattle.lists.proofs.Pad.{and-left}
-use Rattle.kept.proofs.Room.{Fits}
+use Rattle.model.specs.Port.{Reply, hasPlace, acceptOutS, reply}
 use Rattle.kept.proofs.Table.{on-at-address, on-at-index, off-at-address, on-at-fits, off-at-fits}
 use Rattle.channel.specs.declared.OffChannel.{OffChannel}
 use Rattle.channel.specs.declared.OnChannel.{OnChannel}
@@ -30,39 +27,13 @@ use Rattle.table.specs.declared.Table.{Table}
 use Rattle.table.specs.Table.{abs, repr, Wf, wfb}
 use Rattle.table.proofs.Laws.{storeOn, storeOff}
 use Rattle.calls.specs.declared.Found.{Found}
-use Rattle.calls.specs.Calls.{Outcome, tableReply, called, foundOf, acceptedOut}
-use Rattle.calls.proofs.Called.{called-refused, called-granted}
-use Rattle.forward.specs.Forward.{placeOn, placeOff, refusedBy, outIn}
+use Rattle.calls.specs.Calls.{Outcome, tableReply, foundOf, acceptedOut}
+use Rattle.calls.proofs.Called.{called-refused, called-granted, tested}
+use Rattle.calls.proofs.Timed.{timeSet, set-form, on-time, wf-room}
+use Rattle.calls.specs.Places.{placeOn, placeOff}
+use Rattle.forward.specs.Forward.{refusedBy, outIn}
 use Rattle.forward.proofs.Places.{wf-fits, on-room, off-room, on-full, off-full, on-taken, off-taken, on-stored, off-stored}
-use Rattle.forward.proofs.Find.{tested}
 use Rattle.forward.proofs.Model.{onFor, offFor, onSent, offSent, onPut, offPut, roomedOn, roomedOff, out-malformed, out-late, out-full, out-on, out-off, out-cumulative}
-
--- the table at a new time
-abbrev pub timeSet : ℕ → Table → Table
-timeSet time t =
-    record {
-      latest = time;
-      forwarding = t .forwarding;
-      prefix = t .prefix;
-      offset = t .offset;
-      source = t .source;
-      offcount = t .offcount;
-      oncount = t .oncount;
-      offs = t .offs;
-      ons = t .ons;
-    }
-
-set-form : (time : ℕ) (t : Table) → Wf t → timeSet time t ≡ repr (model.withTime time (abs t))
-unfolding repr
-set-form time t w = ap (λ (x : Table). timeSet time x) (w .form)
-
-wf-room : (t : Table) → Wf t → fits (abs t .protocol) ≡ true
-unfolding wellFormed
-wf-room t w = and-left (fits (abs t .protocol)) (good (abs t)) (w .meets)
-
-on-time : (time : ℕ) (t : Table) → t .latest ≤ time → onTime time (abs t) ≡ true
-unfolding abs
-on-time time t h = le-leb (t .latest) time h
 
 -- ---- the answer, where the model's reply is known
 

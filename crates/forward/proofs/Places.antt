@@ -1,13 +1,13 @@
 -- A channel's place in any table that is the one form of a state within the limits: what the code takes from there, and the table with a
 -- channel of that key stored there. Assumes nothing.
-use mathlib.Core.Path.{_≡_, refl, ap, sym, subst, _∙_}
+use mathlib.Core.Path.{_≡_, refl, ap, sym, _∙_}
 use mathlib.Core.Bool.{Bool, true, false, cond, _||_}
 use mathlib.Core.List.{List, map}
 use Prim.Native.Nat.{ℕ, _+_, _≤_, _<_}
 use native.Mathlib.Omega.{arith}
 use borrow.Author.Tests.{ltb-true, ltb-false, le-leb, lt-leb}
 use lib.Dec.{ltb, leb}
-use lib.ListN.{length, take, getD}
+use lib.ListN.{length, getD}
 use Rattle.lists.specs.Find.{has, slotOf}
 use Rattle.lists.proofs.Pad.{length-pad}
 use Rattle.lists.proofs.Find.{find-absent}
@@ -19,22 +19,11 @@ use Rattle.kept.proofs.Table.{well-facts}
 use Rattle.channel.specs.declared.OffChannel.{OffChannel}
 use Rattle.channel.specs.declared.OnChannel.{OnChannel}
 use Rattle.channel.specs.Channel.{reprOff, reprOn}
-use Rattle.table.specs.declared.Keys.{Keys}
 use Rattle.table.specs.declared.Table.{Table}
-use Rattle.table.specs.Keys.{isAddress, isKey, keysOf}
 use Rattle.table.specs.Table.{abs, repr, Wf, zeroOff, zeroOn}
 use Rattle.table.proofs.Laws.{storeOn, storeOff}
-use Rattle.table.proofs.Places.{on-slot-at, off-slot-at}
 use Rattle.calls.proofs.Called.{on-limit, off-limit, on-read, off-read, on-absent, off-absent, on-store, off-store, on-store-new, off-store-new}
-use Rattle.forward.specs.Forward.{placeOn, placeOff}
-
--- ---- the search
-
-pub on-place-is : (t : Table) (keys : Keys) (a i at : ℕ) → Wf t → keys ≡ keysOf t → at ≡ slotOf (isKey a i) (take (t .oncount) (keys .ons)) → at ≡ placeOn a i (abs t)
-on-place-is t keys a i at w e q = q ∙ ap (λ (k : Keys). slotOf (isKey a i) (take (t .oncount) (k .ons))) e ∙ on-slot-at t w a i
-
-pub off-place-is : (t : Table) (keys : Keys) (a at : ℕ) → Wf t → keys ≡ keysOf t → at ≡ slotOf (isAddress a) (take (t .offcount) (keys .offs)) → at ≡ placeOff a (abs t)
-off-place-is t keys a at w e q = q ∙ ap (λ (k : Keys). slotOf (isAddress a) (take (t .offcount) (k .offs))) e ∙ off-slot-at t w a
+use Rattle.calls.specs.Places.{placeOn, placeOff}
 
 -- ---- 4: the channel is there, or there is a place for one more
 

@@ -1,18 +1,14 @@
 -- The small helpers, and the lemmas that the proofs of this crate's functions look among. Assumes nothing.
-use mathlib.Core.Path.{_≡_, refl}
+use mathlib.Core.Path.{_≡_}
 use mathlib.Core.Bool.{Bool, true, false, cond}
-use Prim.Native.Nat.{ℕ, _+_, _≤_}
+use Prim.Native.Nat.{ℕ}
 use borrow.Author.Tests.{eq-eqb, ne-eqb}
 use borrow.Author.Needs.{needs}
 use Rattle.packet.specs.Data.{isSet}
-use Rattle.channel.specs.declared.OffChannel.{OffChannel}
-use Rattle.channel.specs.declared.OnChannel.{OnChannel}
-use Rattle.table.specs.declared.Table.{Table}
-use Rattle.table.specs.Table.{Wf}
-use Rattle.calls.proofs.Called.{on-limit, off-limit}
-use Rattle.forward.proofs.Places.{ons-length, offs-length, on-place-is, off-place-is}
+use Rattle.calls.proofs.Called.{on-limit, off-limit, tested, key-tested}
+use Rattle.forward.proofs.Places.{ons-length, offs-length}
 use Rattle.forward.proofs.Out.{out-on-full, out-off-full, out-on-requires, out-off-requires, out-on-over, out-on-granted, out-off-over, out-off-rejected, out-off-granted, record-tested, out-unformed, out-bad, out-before, out-found}
-use Rattle.forward.proofs.Find.{find-on-full, find-off-full, find-on-made, find-off-made, tested, key-tested, channel-unformed, channel-malformed, channel-found}
+use Rattle.forward.proofs.Find.{find-on-full, find-off-full, find-on-made, find-off-made, channel-unformed, channel-malformed, channel-found}
 
 pub flagged-yes : (flag value : ℕ) → flag ≡ 1 → value ≡ cond (isSet flag) value 0
 flagged-yes flag value h = rw (eq-eqb flag 1 h)
@@ -27,6 +23,6 @@ module _ {A : Type 0} where
   pub taken-new : (there : Bool) (c d e : A) → there ≡ false → e ≡ d → e ≡ cond there c d
   taken-new there c d e h q = rw h q
 
-pub ruleset steps = (flagged-yes, flagged-no, taken-there, taken-new, on-limit, off-limit, ons-length, offs-length, on-place-is, off-place-is, find-on-full, find-off-full, find-on-made, find-off-made, tested, key-tested, channel-unformed, channel-malformed, channel-found, needs)
+pub ruleset steps = (flagged-yes, flagged-no, taken-there, taken-new, on-limit, off-limit, ons-length, offs-length, find-on-full, find-off-full, find-on-made, find-off-made, tested, key-tested, channel-unformed, channel-malformed, channel-found, needs)
 
 pub ruleset sends = (on-limit, off-limit, ons-length, offs-length, out-on-full, out-off-full, out-on-requires, out-off-requires, out-on-over, out-on-granted, out-off-over, out-off-rejected, out-off-granted, tested, record-tested, out-unformed, out-bad, out-before, out-found, needs)

@@ -1,22 +1,13 @@
 -- The calls of this crate past refusal 1, and the parts that their code has.
 use Prim.Native.Nat.{ℕ}
-use Rattle.lists.specs.Find.{slotOf}
 use Rattle.packet.specs.declared.Record.{Record}
 use Rattle.packet.specs.declared.Key.{Key}
-use Rattle.model.specs.State as model
 use Rattle.model.specs.Port.{channelS, acceptOutS}
 use Rattle.table.specs.declared.Table.{Table}
 use Rattle.table.specs.Table.{abs}
 use Rattle.calls.specs.declared.Found.{Found}
 use Rattle.calls.specs.Answers.{noView}
 use Rattle.calls.specs.Calls.{tableReply, foundOf}
-
--- where the channel of a key stands among its kind, or where a new one would: after the last
-abbrev pub placeOn : ℕ → ℕ → model.State → ℕ
-placeOn a i s = slotOf (model.isOn a i) (s .protocol .ons)
-
-abbrev pub placeOff : ℕ → model.State → ℕ
-placeOff a s = slotOf (model.isOff a) (s .protocol .offs)
 
 -- the key of an off-channel
 abbrev pub offKey : ℕ → Key

@@ -12,9 +12,9 @@ ghost use Prim.Native.Nat.{_+_, _≤_};
 ghost use Rattle.packet.specs.Data.{isSet, wellMade, keyMade};
 ghost use Rattle.model.specs.State as model;
 ghost use Rattle.channel.specs.Channel.{reprOff, reprOn};
-ghost use Rattle.table.specs.Table.{abs, Wf};
-ghost use Rattle.calls.specs.Calls as calls;
-ghost use Rattle.forward.specs.Forward.{placeOn, placeOff, offKey, refusedBy, foundIn, outIn};
+ghost use Rattle.table.specs.Table.{Wf};
+ghost use Rattle.calls.specs.Calls.{channelOf, acceptedOut};
+ghost use Rattle.forward.specs.Forward.{offKey, refusedBy, foundIn, outIn};
 
 // A refusal's answer: its number, and no channel.
 fn refused(t: Table, code: u32) -> Found
@@ -55,25 +55,7 @@ fn counted(count: u32, there: bool) -> u32
     count + 1
 }
 
-// ---- a channel's place in the table, and the channel that stands there or a new one
-
-fn on_place(t: Table, address: u32, index: u32) -> usize
-    requires { ⌜ Wf t ⌝ }
-    ensures { λ r. ⌜ r ≡ placeOn address index (abs t) ⌝ }
-{
-    let keys = table::keys_of(t);
-    let l = keys.ons;
-    table::on_slot(l, t.oncount as usize, address, index)
-}
-
-fn off_place(t: Table, address: u32) -> usize
-    requires { ⌜ Wf t ⌝ }
-    ensures { λ r. ⌜ r ≡ placeOff address (abs t) ⌝ }
-{
-    let keys = table::keys_of(t);
-    let l = keys.offs;
-    table::off_slot(l, t.offcount as usize, address)
-}
+// ---- the channel that stands at a key's place, or a new one
 
 // "creation stores the version"
 fn on_or_new(c: OnChannel, there: bool, address: u32, index: u32, version: u32) -> OnChannel
@@ -103,9 +85,9 @@ fn find_on(t: Table, k: Key) -> Found
     requires { ⌜ k .on ≡ 1 ⌝ }
     ensures { λ f. ⌜ f ≡ foundIn t k ⌝ }
 {
-    let index = if_flagged(k.indexed, k.index);
+    let index = calls::index_of(k);
     let version = if_flagged(k.indexed, 1);
-    let at = on_place(t, k.address, index);
+    let at = calls::on_place(t, k.address, index);
     if 8 <= at {
         return refused(t, 4);
     }
@@ -130,7 +112,7 @@ fn find_off(t: Table, k: Key) -> Found
     requires { ⌜ (k .on ≡ 1 → ⊥) ⌝ }
     ensures { λ f. ⌜ f ≡ foundIn t k ⌝ }
 {
-    let at = off_place(t, k.address);
+    let at = calls::off_place(t, k.address);
     if 4 <= at {
         return refused(t, 4);
     }
@@ -150,7 +132,7 @@ fn find_off(t: Table, k: Key) -> Found
 }
 
 pub fn channel(t: Table, k: Key) -> Found
-    ensures { λ f. ⌜ f ≡ calls.channelOf t k ⌝ }
+    ensures { λ f. ⌜ f ≡ channelOf t k ⌝ }
 {
     if !table::well_formed(t) {
         return refused(t, 1);
@@ -165,7 +147,7 @@ pub fn channel(t: Table, k: Key) -> Found
 }
 
 pub fn off_channel(t: Table, address: u32) -> Found
-    ensures { λ f. ⌜ f ≡ calls.channelOf t (offKey address) ⌝ }
+    ensures { λ f. ⌜ f ≡ channelOf t (offKey address) ⌝ }
 {
     let k = Key {
         address,
@@ -188,7 +170,7 @@ fn out_on(t: Table, time: u64, address: u32, r: Record) -> Found
 {
     let index = if_flagged(r.indexed, r.index);
     let version = if_flagged(r.indexed, r.version);
-    let at = on_place(t, address, index);
+    let at = calls::on_place(t, address, index);
     let mut u = t;
     u.latest = time;
     if 8 <= at {
@@ -221,7 +203,7 @@ fn out_off(t: Table, time: u64, address: u32, r: Record) -> Found
     requires { ⌜ (r .on ≡ 1 → ⊥) ⌝ }
     ensures { λ f. ⌜ f ≡ outIn t time address r ⌝ }
 {
-    let at = off_place(t, address);
+    let at = calls::off_place(t, address);
     let mut u = t;
     u.latest = time;
     if 4 <= at {
@@ -251,7 +233,7 @@ fn out_off(t: Table, time: u64, address: u32, r: Record) -> Found
 
 // "no prefix, version check or piggybacks"
 pub fn accept_out(t: Table, time: u64, address: u32, r: Record) -> Found
-    ensures { λ f. ⌜ f ≡ calls.acceptedOut t time address r ⌝ }
+    ensures { λ f. ⌜ f ≡ acceptedOut t time address r ⌝ }
 {
     if !table::well_formed(t) {
         return refused(t, 1);

@@ -10,7 +10,7 @@ use lib.ListN.{length, take, getD}
 use Rattle.lists.specs.Find.{has}
 use Rattle.lists.proofs.Pad.{length-of-map}
 use Rattle.lists.proofs.Maps.{has-map}
-use Rattle.lists.proofs.Looking.{Asking, asking-start, asking-hit, asking-step, asking-end}
+use Rattle.lists.proofs.Looking.{Asking, asking-hit, asking-step, asking-end}
 use Rattle.model.specs.Rust as rust
 use Rattle.model.specs.Rust.{holdsOff, holdsOn}
 use Rattle.model.specs.Calls.{holds}
@@ -23,7 +23,7 @@ use Rattle.table.specs.Table.{abs, Wf, wfb, zeroOff, zeroOn}
 use Rattle.table.proofs.Test.{test-wf}
 use Rattle.table.proofs.Places.{off-wf-at, on-wf-at}
 use Rattle.calls.specs.declared.Held.{Held}
-use Rattle.calls.specs.Calls.{Outcome, tableReply, called, heldOf, holdsOf}
+use Rattle.calls.specs.Calls.{Outcome, heldOf, holdsOf}
 use Rattle.calls.proofs.Called.{called-refused, called-granted, on-limit, on-index, off-limit, off-index}
 use Rattle.handout.specs.Handout.{OffsWf, OnsWf}
 

@@ -4,11 +4,11 @@ use mathlib.Core.Bool.{Bool, true, false, not}
 use mathlib.Core.List.{List, [], _∷_}
 use Prim.Native.Nat.{ℕ, _≤_, _<_}
 use native.Mathlib.Omega.{arith}
-use borrow.Author.Tests.{eq-eqb, ne-eqb, le-leb, lt-leb, not-true, not-false}
+use borrow.Author.Tests.{le-leb, lt-leb, not-true, not-false}
 use borrow.Author.Needs.{needs}
 use lib.Dec.{leb}
-use lib.ListN.{length, take, drop, getD}
-use Rattle.lists.specs.Find.{written, slotOf}
+use lib.ListN.{length, drop, getD}
+use Rattle.lists.specs.Find.{written}
 use Rattle.lists.proofs.Pad.{length-of-map}
 use Rattle.packet.specs.declared.Key.{Key}
 use Rattle.packet.specs.Data.{keyIndex, keyMade}
@@ -22,43 +22,19 @@ use Rattle.bundles.specs.Bundles as bundles
 use Rattle.bundles.proofs.Model.{wf-len, wf-repr, abs-repr}
 use Rattle.channel.specs.declared.OffChannel.{OffChannel}
 use Rattle.channel.specs.declared.OnChannel.{OnChannel}
-use Rattle.channel.specs.Channel.{reprOff, reprOn}
 use Rattle.channel.proofs.Laws.{Fits, fits-parts, on-data}
-use Rattle.table.specs.declared.Keys.{Keys}
 use Rattle.table.specs.declared.Table.{Table}
-use Rattle.table.specs.Keys.{isAddress, isKey, keysOf}
 use Rattle.table.specs.Table.{abs, repr, Wf, wfb}
 use Rattle.table.proofs.Laws.{storeOn, storeOff}
 use Rattle.table.proofs.Test.{test-wf}
-use Rattle.table.proofs.Places.{off-slot-at, on-slot-at}
 use Rattle.calls.specs.declared.Popped.{Popped}
 use Rattle.calls.specs.Answers.{codeOf, someOf, lengthOf}
+use Rattle.calls.specs.Places.{placeOn}
 use Rattle.calls.specs.Calls as Calls
 use Rattle.calls.specs.Calls.{Outcome, tableReply, called, poppedOf, nextLent}
-use Rattle.calls.proofs.Called.{called-refused, called-granted, on-key-there, on-key-absent, on-key-read, on-key-fits, on-key-store, on-key-data, on-limit, on-index, off-key-there, off-key-absent, off-key-read, off-key-fits, off-key-store, off-key-data, off-limit, off-index}
+use Rattle.calls.proofs.Called.{tested, key-tested, keyPlaceOff, key-placed, on-standing, on-standing-below, off-standing, off-standing-below, called-refused, called-granted, on-key-there, on-key-absent, on-key-fits, on-key-store, on-key-data, on-index, off-key-there, off-key-absent, off-key-fits, off-key-store, off-key-data, off-index}
 use Rattle.handout.specs.declared.Offer.{Offer}
-use Rattle.handout.specs.Handout.{placeOn, placeOff, offeredIf, offered, offerOf, nextIn, nextLentIn}
-
--- ---- the index of a key
-
-pub index-named : (k : Key) → k .indexed ≡ 1 → k .index ≡ keyIndex k
-index-named k h = rw (eq-eqb (k .indexed) 1 h)
-
-pub index-none : (k : Key) → (k .indexed ≡ 1 → ⊥) → 0 ≡ keyIndex k
-index-none k h = rw (ne-eqb (k .indexed) 1 h)
-
-pub ruleset indexing = (index-named, index-none, needs)
-
--- ---- the place of a channel, looked for among the keys
-
-pub on-place-is : (t : Table) (k : Key) (ks : Keys) (i r : ℕ) → Wf t → ks ≡ keysOf t → i ≡ keyIndex k → r ≡ slotOf (isKey (k .address) i) (take (t .oncount) (ks .ons)) → r ≡ placeOn t k
-on-place-is t k ks i r w e x q =
-    q ∙ (λ j. slotOf (isKey (k .address) (x j)) (take (t .oncount) (e j .ons))) ∙ on-slot-at t w (k .address) (keyIndex k)
-
-pub off-place-is : (t : Table) (k : Key) (ks : Keys) (r : ℕ) → Wf t → ks ≡ keysOf t → r ≡ slotOf (isAddress (k .address)) (take (t .offcount) (ks .offs)) → r ≡ placeOff t k
-off-place-is t k ks r w e q = q ∙ (λ j. slotOf (isAddress (k .address)) (take (t .offcount) (e j .offs))) ∙ off-slot-at t w (k .address)
-
-pub ruleset placing = (on-place-is, off-place-is, on-limit, off-limit, needs)
+use Rattle.handout.specs.Handout.{offeredIf, offered, offerOf, nextIn, nextLentIn}
 
 -- ---- what is offered of the bundles that wait
 
@@ -241,75 +217,65 @@ onBundles c b =
       queue = c .queue;
     }
 
-module _ (t : Table) (k : Key) (w : Wf t) (at : ℕ) (d : OnChannel) (e : at ≡ placeOn t k) (h : at < t .oncount) where
-  on-below : placeOn t k < t .oncount
-  on-below = omega (arith, e)
-
-  on-channel : getD (t .ons) at d ≡ reprOn (keyOn k (abs t .protocol))
-  on-channel = ap (λ (i : ℕ). getD (t .ons) i d) e ∙ on-key-read t w k d on-below
-
+module _ (t : Table) (k : Key) (w : Wf t) (i at : ℕ) (d : OnChannel) (x : i ≡ keyIndex k) (q : at ≡ placeOn (k .address) i (abs t)) (h : at < t .oncount) where
   on-few : Fits (keyOn k (abs t .protocol) .off)
   on-few = fits-parts (keyOn k (abs t .protocol) .off) (on-data (keyOn k (abs t .protocol)) (on-key-fits t w k))
 
   pub on-bundles-wf : bundles.Wf (getD (t .ons) at d .bundles)
-  on-bundles-wf = let g = keyOn k (abs t .protocol) .off .bundles in rw on-channel (wf-repr g (on-few .bundles) (on-few .handles))
+  on-bundles-wf = let g = keyOn k (abs t .protocol) .off .bundles in rw (on-standing t w k i at x q h d) (wf-repr g (on-few .bundles) (on-few .handles))
 
   on-bundles : bundles.abs (getD (t .ons) at d .bundles) ≡ keyOn k (abs t .protocol) .off .bundles
-  on-bundles = ap (λ (c : OnChannel). bundles.abs (c .bundles)) on-channel ∙ abs-repr (keyOn k (abs t .protocol) .off .bundles) (on-few .bundles) (on-few .handles)
+  on-bundles = ap (λ (c : OnChannel). bundles.abs (c .bundles)) (on-standing t w k i at x q h d) ∙ abs-repr (keyOn k (abs t .protocol) .off .bundles) (on-few .bundles) (on-few .handles)
 
   on-same : k .on ≡ 1 → bundles.abs (getD (t .ons) at d .bundles) ≡ dataOf k (abs t .protocol) .bundles
   on-same o = on-bundles ∙ ap (λ (x : model.OffData). x .bundles) (sym (on-key-data k (abs t .protocol) o))
 
   on-popped : (r : Bundles) → k .on ≡ 1 → r ≡ bundles.repr (drop 1 (bundles.abs (getD (t .ons) at d .bundles)))
       → storeOn t (t .oncount) at (onBundles (getD (t .ons) at d) r) ≡ repr (model.withProtocol (popped k (drop 1 (bundles.abs (getD (t .ons) at d .bundles))) (abs t .protocol)) (abs t))
-  on-popped r o q =
+  on-popped r o y =
       let p = abs t .protocol in
       let bs = drop 1 (bundles.abs (getD (t .ons) at d .bundles)) in
-      (λ i. storeOn t (t .oncount) (e i) (onBundles (on-channel i) (q i)))
-      ∙ on-key-store t w k o on-below (model.withBundles bs (keyOn k p .off))
+      let key = key-placed k (abs t) i at x q in
+      let here = on-standing t w k i at x q h d in
+      (λ j. storeOn t (t .oncount) (key j) (onBundles (here j) (y j)))
+      ∙ on-key-store t w k o (on-standing-below t w k i at x q h) (model.withBundles bs (keyOn k p .off))
       ∙ ap (λ (x : model.OffData). repr (model.withProtocol (putData k (model.withBundles bs x) p) (abs t))) (sym (on-key-data k p o))
 
-pub on-next-absent : (t : Table) (k : Key) (l : List ℕ) (at : ℕ) → Wf t → keyMade k ≡ true → k .on ≡ 1 → at ≡ placeOn t k → t .oncount ≤ at
+pub on-next-absent : (t : Table) (k : Key) (l : List ℕ) (i at : ℕ) → Wf t → keyMade k ≡ true → k .on ≡ 1 → i ≡ keyIndex k → at ≡ placeOn (k .address) i (abs t) → t .oncount ≤ at
     → _≡_ {A = Popped} (record { table = t; code = 13; some = 0; len = 0 }) (nextIn t k l)
-on-next-absent t k l at w v o e h = absent-is t k l w v (on-key-absent t w k o (omega (arith, e)))
+on-next-absent t k l i at w v o x q h = absent-is t k l w v (on-key-absent t w k o (omega (arith, key-placed k (abs t) i at x q)))
 
-pub on-lent-absent : (t : Table) (k : Key) (l : List ℕ) (at : ℕ) → Wf t → keyMade k ≡ true → k .on ≡ 1 → at ≡ placeOn t k → t .oncount ≤ at → l ≡ nextLentIn t k l
-on-lent-absent t k l at w v o e h = absent-lent t k l w v (on-key-absent t w k o (omega (arith, e)))
+pub on-lent-absent : (t : Table) (k : Key) (l : List ℕ) (i at : ℕ) → Wf t → keyMade k ≡ true → k .on ≡ 1 → i ≡ keyIndex k → at ≡ placeOn (k .address) i (abs t) → t .oncount ≤ at → l ≡ nextLentIn t k l
+on-lent-absent t k l i at w v o x q h = absent-lent t k l w v (on-key-absent t w k o (omega (arith, key-placed k (abs t) i at x q)))
 
-pub on-next-kept : (t : Table) (k : Key) (l : List ℕ) (at : ℕ) (d : OnChannel) (x : Offer) → Wf t → keyMade k ≡ true → k .on ≡ 1 → at ≡ placeOn t k → at < t .oncount
+pub on-next-kept : (t : Table) (k : Key) (l : List ℕ) (i at : ℕ) (d : OnChannel) (x : Offer) → Wf t → keyMade k ≡ true → k .on ≡ 1 → i ≡ keyIndex k → at ≡ placeOn (k .address) i (abs t) → at < t .oncount
     → x ≡ offerOf (offered (bundles.abs (getD (t .ons) at d .bundles)) (length l)) → x .some ≡ 0 → _≡_ {A = Popped} (record { table = t; code = x .code; some = 0; len = 0 }) (nextIn t k l)
-on-next-kept t k l at d x w v o e h q z = kept-is t k l w v (getD (t .ons) at d .bundles) (on-key-there t w k o (on-below t k w at d e h)) (on-same t k w at d e h o) x q z
+on-next-kept t k l i at d x w v o y p h q z = kept-is t k l w v (getD (t .ons) at d .bundles) (on-key-there t w k o (on-standing-below t w k i at y p h)) (on-same t k w i at d y p h o) x q z
 
-pub on-lent-here : (t : Table) (k : Key) (l : List ℕ) (at : ℕ) (d : OnChannel) (out : List ℕ) → Wf t → keyMade k ≡ true → k .on ≡ 1 → at ≡ placeOn t k → at < t .oncount
+pub on-lent-here : (t : Table) (k : Key) (l : List ℕ) (i at : ℕ) (d : OnChannel) (out : List ℕ) → Wf t → keyMade k ≡ true → k .on ≡ 1 → i ≡ keyIndex k → at ≡ placeOn (k .address) i (abs t) → at < t .oncount
     → out ≡ lent (offered (bundles.abs (getD (t .ons) at d .bundles)) (length l)) l → out ≡ nextLentIn t k l
-on-lent-here t k l at d out w v o e h q = here-lent t k l w v (getD (t .ons) at d .bundles) (on-key-there t w k o (on-below t k w at d e h)) (on-same t k w at d e h o) out q
+on-lent-here t k l i at d out w v o y p h q = here-lent t k l w v (getD (t .ons) at d .bundles) (on-key-there t w k o (on-standing-below t w k i at y p h)) (on-same t k w i at d y p h o) out q
 
-pub on-next-gone : (t : Table) (k : Key) (l : List ℕ) (at : ℕ) (d : OnChannel) (x : Offer) (r : Bundles) → Wf t → keyMade k ≡ true → k .on ≡ 1 → at ≡ placeOn t k → at < t .oncount
+pub on-next-gone : (t : Table) (k : Key) (l : List ℕ) (i at : ℕ) (d : OnChannel) (x : Offer) (r : Bundles) → Wf t → keyMade k ≡ true → k .on ≡ 1 → i ≡ keyIndex k → at ≡ placeOn (k .address) i (abs t) → at < t .oncount
     → x ≡ offerOf (offered (bundles.abs (getD (t .ons) at d .bundles)) (length l)) → (x .some ≡ 0 → ⊥) → r ≡ bundles.repr (drop 1 (bundles.abs (getD (t .ons) at d .bundles)))
     → _≡_ {A = Popped} (record { table = storeOn t (t .oncount) at (onBundles (getD (t .ons) at d) r); code = 0; some = 1; len = x .len }) (nextIn t k l)
-on-next-gone t k l at d x r w v o e h q z y =
-    gone-is t k l w v (getD (t .ons) at d .bundles) (on-key-there t w k o (on-below t k w at d e h)) (on-same t k w at d e h o) x (storeOn t (t .oncount) at (onBundles (getD (t .ons) at d) r)) q z (on-popped t k w at d e h r o y)
+on-next-gone t k l i at d x r w v o y p h q z f =
+    gone-is t k l w v (getD (t .ons) at d .bundles) (on-key-there t w k o (on-standing-below t w k i at y p h)) (on-same t k w i at d y p h o) x (storeOn t (t .oncount) at (onBundles (getD (t .ons) at d) r)) q z (on-popped t k w i at d y p h r o f)
 
 -- ---- an off-channel
 
 abbrev offBundles : OffChannel → Bundles → OffChannel
 offBundles c b = record { address = c .address; out = c .out; acks = c .acks; groups = c .groups; bundles = b }
 
-module _ (t : Table) (k : Key) (w : Wf t) (at : ℕ) (d : OffChannel) (e : at ≡ placeOff t k) (h : at < t .offcount) where
-  off-below : placeOff t k < t .offcount
-  off-below = omega (arith, e)
-
-  off-channel : getD (t .offs) at d ≡ reprOff (keyOff k (abs t .protocol))
-  off-channel = ap (λ (i : ℕ). getD (t .offs) i d) e ∙ off-key-read t w k d off-below
-
+module _ (t : Table) (k : Key) (w : Wf t) (at : ℕ) (d : OffChannel) (e : at ≡ keyPlaceOff k (abs t)) (h : at < t .offcount) where
   off-few : Fits (keyOff k (abs t .protocol) .off)
   off-few = fits-parts (keyOff k (abs t .protocol) .off) (off-key-fits t w k)
 
   pub off-bundles-wf : bundles.Wf (getD (t .offs) at d .bundles)
-  off-bundles-wf = let g = keyOff k (abs t .protocol) .off .bundles in rw off-channel (wf-repr g (off-few .bundles) (off-few .handles))
+  off-bundles-wf = let g = keyOff k (abs t .protocol) .off .bundles in rw (off-standing t w k at e h d) (wf-repr g (off-few .bundles) (off-few .handles))
 
   off-bundles : bundles.abs (getD (t .offs) at d .bundles) ≡ keyOff k (abs t .protocol) .off .bundles
-  off-bundles = ap (λ (c : OffChannel). bundles.abs (c .bundles)) off-channel ∙ abs-repr (keyOff k (abs t .protocol) .off .bundles) (off-few .bundles) (off-few .handles)
+  off-bundles = ap (λ (c : OffChannel). bundles.abs (c .bundles)) (off-standing t w k at e h d) ∙ abs-repr (keyOff k (abs t .protocol) .off .bundles) (off-few .bundles) (off-few .handles)
 
   off-same : (k .on ≡ 1 → ⊥) → bundles.abs (getD (t .offs) at d .bundles) ≡ dataOf k (abs t .protocol) .bundles
   off-same o = off-bundles ∙ ap (λ (x : model.OffData). x .bundles) (sym (off-key-data k (abs t .protocol) o))
@@ -319,30 +285,31 @@ module _ (t : Table) (k : Key) (w : Wf t) (at : ℕ) (d : OffChannel) (e : at �
   off-popped r o q =
       let p = abs t .protocol in
       let bs = drop 1 (bundles.abs (getD (t .offs) at d .bundles)) in
-      (λ i. storeOff t (t .offcount) (e i) (offBundles (off-channel i) (q i)))
-      ∙ off-key-store t w k o off-below (model.withBundles bs (keyOff k p .off))
+      let here = off-standing t w k at e h d in
+      (λ i. storeOff t (t .offcount) (e i) (offBundles (here i) (q i)))
+      ∙ off-key-store t w k o (off-standing-below t w k at e h) (model.withBundles bs (keyOff k p .off))
       ∙ ap (λ (x : model.OffData). repr (model.withProtocol (putData k (model.withBundles bs x) p) (abs t))) (sym (off-key-data k p o))
 
-pub off-next-absent : (t : Table) (k : Key) (l : List ℕ) (at : ℕ) → Wf t → keyMade k ≡ true → (k .on ≡ 1 → ⊥) → at ≡ placeOff t k → t .offcount ≤ at
+pub off-next-absent : (t : Table) (k : Key) (l : List ℕ) (at : ℕ) → Wf t → keyMade k ≡ true → (k .on ≡ 1 → ⊥) → at ≡ keyPlaceOff k (abs t) → t .offcount ≤ at
     → _≡_ {A = Popped} (record { table = t; code = 13; some = 0; len = 0 }) (nextIn t k l)
 off-next-absent t k l at w v o e h = absent-is t k l w v (off-key-absent t w k o (omega (arith, e)))
 
-pub off-lent-absent : (t : Table) (k : Key) (l : List ℕ) (at : ℕ) → Wf t → keyMade k ≡ true → (k .on ≡ 1 → ⊥) → at ≡ placeOff t k → t .offcount ≤ at → l ≡ nextLentIn t k l
+pub off-lent-absent : (t : Table) (k : Key) (l : List ℕ) (at : ℕ) → Wf t → keyMade k ≡ true → (k .on ≡ 1 → ⊥) → at ≡ keyPlaceOff k (abs t) → t .offcount ≤ at → l ≡ nextLentIn t k l
 off-lent-absent t k l at w v o e h = absent-lent t k l w v (off-key-absent t w k o (omega (arith, e)))
 
-pub off-next-kept : (t : Table) (k : Key) (l : List ℕ) (at : ℕ) (d : OffChannel) (x : Offer) → Wf t → keyMade k ≡ true → (k .on ≡ 1 → ⊥) → at ≡ placeOff t k → at < t .offcount
+pub off-next-kept : (t : Table) (k : Key) (l : List ℕ) (at : ℕ) (d : OffChannel) (x : Offer) → Wf t → keyMade k ≡ true → (k .on ≡ 1 → ⊥) → at ≡ keyPlaceOff k (abs t) → at < t .offcount
     → x ≡ offerOf (offered (bundles.abs (getD (t .offs) at d .bundles)) (length l)) → x .some ≡ 0 → _≡_ {A = Popped} (record { table = t; code = x .code; some = 0; len = 0 }) (nextIn t k l)
-off-next-kept t k l at d x w v o e h q z = kept-is t k l w v (getD (t .offs) at d .bundles) (off-key-there t w k o (off-below t k w at d e h)) (off-same t k w at d e h o) x q z
+off-next-kept t k l at d x w v o e h q z = kept-is t k l w v (getD (t .offs) at d .bundles) (off-key-there t w k o (off-standing-below t w k at e h)) (off-same t k w at d e h o) x q z
 
-pub off-lent-here : (t : Table) (k : Key) (l : List ℕ) (at : ℕ) (d : OffChannel) (out : List ℕ) → Wf t → keyMade k ≡ true → (k .on ≡ 1 → ⊥) → at ≡ placeOff t k → at < t .offcount
+pub off-lent-here : (t : Table) (k : Key) (l : List ℕ) (at : ℕ) (d : OffChannel) (out : List ℕ) → Wf t → keyMade k ≡ true → (k .on ≡ 1 → ⊥) → at ≡ keyPlaceOff k (abs t) → at < t .offcount
     → out ≡ lent (offered (bundles.abs (getD (t .offs) at d .bundles)) (length l)) l → out ≡ nextLentIn t k l
-off-lent-here t k l at d out w v o e h q = here-lent t k l w v (getD (t .offs) at d .bundles) (off-key-there t w k o (off-below t k w at d e h)) (off-same t k w at d e h o) out q
+off-lent-here t k l at d out w v o e h q = here-lent t k l w v (getD (t .offs) at d .bundles) (off-key-there t w k o (off-standing-below t w k at e h)) (off-same t k w at d e h o) out q
 
-pub off-next-gone : (t : Table) (k : Key) (l : List ℕ) (at : ℕ) (d : OffChannel) (x : Offer) (r : Bundles) → Wf t → keyMade k ≡ true → (k .on ≡ 1 → ⊥) → at ≡ placeOff t k → at < t .offcount
+pub off-next-gone : (t : Table) (k : Key) (l : List ℕ) (at : ℕ) (d : OffChannel) (x : Offer) (r : Bundles) → Wf t → keyMade k ≡ true → (k .on ≡ 1 → ⊥) → at ≡ keyPlaceOff k (abs t) → at < t .offcount
     → x ≡ offerOf (offered (bundles.abs (getD (t .offs) at d .bundles)) (length l)) → (x .some ≡ 0 → ⊥) → r ≡ bundles.repr (drop 1 (bundles.abs (getD (t .offs) at d .bundles)))
     → _≡_ {A = Popped} (record { table = storeOff t (t .offcount) at (offBundles (getD (t .offs) at d) r); code = 0; some = 1; len = x .len }) (nextIn t k l)
 off-next-gone t k l at d x r w v o e h q z y =
-    gone-is t k l w v (getD (t .offs) at d .bundles) (off-key-there t w k o (off-below t k w at d e h)) (off-same t k w at d e h o) x (storeOff t (t .offcount) at (offBundles (getD (t .offs) at d) r)) q z (off-popped t k w at d e h r o y)
+    gone-is t k l w v (getD (t .offs) at d .bundles) (off-key-there t w k o (off-standing-below t w k at e h)) (off-same t k w at d e h o) x (storeOff t (t .offcount) at (offBundles (getD (t .offs) at d) r)) q z (off-popped t k w at d e h r o y)
 
 pub ruleset handing =
     (on-next-absent, on-lent-absent, on-next-kept, on-lent-here, on-next-gone, on-bundles-wf, on-index, off-next-absent, off-lent-absent, off-next-kept, off-lent-here, off-next-gone, off-bundles-wf, off-index, length-of-map, needs)
@@ -382,10 +349,4 @@ module _ (t : Table) (k : Key) (l : List ℕ) (x : Bool) (e : x ≡ wfb t) (h : 
   unfolding nextLentIn
   lent-malformed y q n = lent-is l (ap (λ (r : Reply). lent (r .answer) l) (sym (reply-malformed k (length l) (abs t) (sym q ∙ not-true y n))))
 
-pub wf-here : (t : Table) (x : Bool) → x ≡ wfb t → not x ≡ false → Wf t
-wf-here t x e h = test-wf t (sym e ∙ not-false x h)
-
-pub made-here : (k : Key) (y : Bool) → y ≡ keyMade k → not y ≡ false → keyMade k ≡ true
-made-here k y e h = sym e ∙ not-false y h
-
-pub ruleset answering = (next-refused, lent-refused, next-malformed, lent-malformed, next-is, lent-is, wf-here, made-here, needs)
+pub ruleset answering = (next-refused, lent-refused, next-malformed, lent-malformed, next-is, lent-is, tested, key-tested, needs)

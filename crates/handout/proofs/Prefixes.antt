@@ -12,7 +12,7 @@ use Rattle.table.specs.Table.{abs, repr, Wf, wfb}
 use Rattle.table.proofs.Test.{test-wf}
 use Rattle.calls.specs.declared.Done.{Done}
 use Rattle.calls.specs.declared.Prefix.{Prefix}
-use Rattle.calls.specs.Calls.{Outcome, called, doneOf, prefixOf, lastPrefix, resetOf, transferOf}
+use Rattle.calls.specs.Calls.{Outcome, doneOf, prefixOf, lastPrefix, resetOf, transferOf}
 use Rattle.calls.proofs.Called.{called-refused, called-granted}
 
 -- the table with another offset

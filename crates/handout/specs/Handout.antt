@@ -4,10 +4,7 @@ use mathlib.Core.List.{List, [], _∷_}
 use Prim.Native.Nat.{ℕ, _≤_, _<_}
 use lib.Dec.{leb}
 use lib.ListN.{length, getD}
-use Rattle.lists.specs.Find.{slotOf}
 use Rattle.packet.specs.declared.Key.{Key}
-use Rattle.packet.specs.Data.{keyIndex}
-use Rattle.model.specs.State as model
 use Rattle.model.specs.Refusals.{listTooShort}
 use Rattle.model.specs.Calls.{Answer, refused, noBundle, bundle, lent}
 use Rattle.model.specs.Port.{nextBundleS}
@@ -20,13 +17,6 @@ use Rattle.calls.specs.declared.Popped.{Popped}
 use Rattle.calls.specs.Answers.{codeOf, someOf, lengthOf}
 use Rattle.calls.specs.Calls.{tableReply, poppedOf}
 use Rattle.handout.specs.declared.Offer.{Offer}
-
--- where the channel that a key names stands among those in use, or their count
-abbrev pub placeOn : Table → Key → ℕ
-placeOn t k = slotOf (model.isOn (k .address) (keyIndex k)) (abs t .protocol .ons)
-
-abbrev pub placeOff : Table → Key → ℕ
-placeOff t k = slotOf (model.isOff (k .address)) (abs t .protocol .offs)
 
 -- the answer from the bundles that wait and the length of the lent list: "Next bundle without a bundle answers none", whatever the length
 abbrev pub offeredIf : Bool → List ℕ → Answer

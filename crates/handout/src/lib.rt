@@ -13,14 +13,14 @@ ghost use mathlib.Core.Bool.{true};
 ghost use mathlib.Core.List.{map};
 ghost use lib.ListN.{length, take};
 ghost use Rattle.lists.specs.Find.{has};
-ghost use Rattle.packet.specs.Data.{keyIndex, keyMade};
+ghost use Rattle.packet.specs.Data.{keyMade};
 ghost use Rattle.model.specs.Calls as model;
 ghost use Rattle.model.specs.Rust.{holdsOff, holdsOn};
 ghost use Rattle.bundles.specs.Bundles as waiting;
 ghost use Rattle.channel.specs.Channel.{absOff, absOn};
 ghost use Rattle.table.specs.Table.{Wf};
 ghost use Rattle.calls.specs.Calls.{nextOf, nextLent, holdsOf, lastPrefix, resetOf, transferOf};
-ghost use Rattle.handout.specs.Handout.{placeOn, placeOff, offered, offerOf, nextIn, nextLentIn, OffsWf, OnsWf};
+ghost use Rattle.handout.specs.Handout.{offered, offerOf, nextIn, nextLentIn, OffsWf, OnsWf};
 
 // What comes of a channel's bundles: the refusal's number or 0, whether one is handed out, and its length.
 pub struct Offer {
@@ -30,36 +30,6 @@ pub struct Offer {
 }
 
 // ---- next bundle
-
-// The index that a key names, 0 where it names none.
-fn index_of(k: Key) -> u32
-    ensures { λ r. ⌜ r ≡ keyIndex k ⌝ }
-{
-    if k.indexed == 1 {
-        return k.index;
-    }
-    0
-}
-
-// Where the channel stands that the key names, or the count where it is absent.
-fn on_place(t: Table, k: Key) -> usize
-    requires { ⌜ Wf t ⌝ }
-    ensures { λ r. ⌜ r ≡ placeOn t k ⌝ }
-{
-    let keys = table::keys_of(t);
-    let l = keys.ons;
-    let index = index_of(k);
-    table::on_slot(l, t.oncount as usize, k.address, index)
-}
-
-fn off_place(t: Table, k: Key) -> usize
-    requires { ⌜ Wf t ⌝ }
-    ensures { λ r. ⌜ r ≡ placeOff t k ⌝ }
-{
-    let keys = table::keys_of(t);
-    let l = keys.offs;
-    table::off_slot(l, t.offcount as usize, k.address)
-}
 
 // The handles of the bundle that is next go to the lent list, where one waits and they have room there.
 fn hand_out(b: Bundles, lent: &mut [u32]) -> Offer
@@ -96,7 +66,8 @@ fn next_on(t: Table, k: Key, lent: &mut [u32]) -> Popped
     ensures { λ r. ⌜ r ≡ nextIn t k (now (lent .entry)) ⌝ }
     ensures { λ r. ⌜ now (lent .exit) ≡ nextLentIn t k (now (lent .entry)) ⌝ }
 {
-    let at = on_place(t, k);
+    let index = calls::index_of(k);
+    let at = calls::on_place(t, k.address, index);
     if t.oncount as usize <= at {
         return Popped {
             table: t,
@@ -134,7 +105,7 @@ fn next_off(t: Table, k: Key, lent: &mut [u32]) -> Popped
     ensures { λ r. ⌜ r ≡ nextIn t k (now (lent .entry)) ⌝ }
     ensures { λ r. ⌜ now (lent .exit) ≡ nextLentIn t k (now (lent .entry)) ⌝ }
 {
-    let at = off_place(t, k);
+    let at = calls::off_place(t, k.address);
     if t.offcount as usize <= at {
         return Popped {
             table: t,

@@ -6,10 +6,9 @@ use mathlib.Core.Logic.{_⊎_, inl, inr, ⊎-elim}
 use Prim.Native.Nat.{ℕ, _+_, _≤_, _<_}
 use native.Mathlib.Omega.{arith}
 use lib.Dec.{leb}
-use borrow.Author.Needs.{needs}
 use lib.ListN.{length, getD, set}
 use borrow.Author.Tests.{leb-true, leb-false}
-use Rattle.lists.proofs.Pad.{and-left, length-of-map}
+use Rattle.lists.proofs.Pad.{and-left}
 use Rattle.lists.proofs.Find.{find-absent}
 use Rattle.lists.proofs.Slot.{absent-of-slot}
 use Rattle.lists.proofs.Maps.{map-set}
@@ -43,7 +42,7 @@ use Rattle.receive.specs.declared.Tally.{Tally}
 use Rattle.receive.specs.Receive.{tallied, next, aimed, drops, keyedOn, keyedOff, openedOn, openedOff, inUse, withOnKey, withOffKey}
 use Rattle.receive.proofs.Step.{putOnP, putOffP, judgedOn, judgedOff, OnKeyed, OffKeyed, on-keyed, off-keyed, step-on, step-off, step-malformed, step-full}
 use Rattle.receive.proofs.Judge.{KeptOn, KeptOff, on-next, on-kept, on-dropped, off-next, off-kept, off-dropped}
-use Rattle.receive.proofs.Turn.{Turning, turning-start, turning-end, turned}
+use Rattle.receive.proofs.Turn.{Turning, turned}
 use Rattle.receive.proofs.Aims.{OnAim, OffAim, Missed, Full, aimed-on, aimed-off, aimed-none}
 
 wf-fits : (u : Table) → Wf u → fits (abs u .protocol) ≡ true
@@ -103,7 +102,7 @@ module _ (u : Table) (wf : Wf u) (a : ℕ) (r : Record) (aim : Aim) where
           ∙ ap (λ (k : ℕ). getD (repr s .offs) k d) (w .at)
           ∙ off-here s a d l (few-offs u wf)
 
-  -- the table with a channel of that key stored at its place, and the record's prefix
+  -- the table with a channel of that key stored at its place, n of its kind in use, and the record's prefix
   abbrev storedOn : ℕ → OnChannel → Table
   storedOn n c =
       record {
@@ -378,5 +377,3 @@ module _ (t : Table) (a : ℕ) (b : Batch) (u : Table) (keys : Keys) (done : Tal
           turned t a b u keys done i z w h (storedOff u (w .wf) a rec aim o (s .channel)) l n (judgedOff offOutcome rec (abs u)) off-step-model
           ((λ q. storedOff u (w .wf) a rec aim (c q) (j q)) ∙ off-stored u (w .wf) a rec aim off-aim (p .channel) (p .key) ∙ ap (λ (y : model.State). repr y) (sym (p .state)))
           (m ∙ off-keys u (w .wf) a rec aim keys o (s .channel) (w .keyed)) off-tally
-
-pub ruleset turning = (turning-start, turning-end, turn-missed, on-index, on-form, on-made, turn-on-dropped, turn-on-kept, off-index, off-form, off-made, turn-off-dropped, turn-off-kept, length-of-map, needs)

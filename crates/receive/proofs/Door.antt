@@ -81,7 +81,7 @@ timed-abs : (n : ℕ) (t : Table) → abs (timedTable n t) ≡ model.withTime n 
 unfolding abs
 timed-abs n t = refl
 
-timed-wf : (n : ℕ) (t : Table) → Wf t → t .latest ≤ n → Wf (timedTable n t)
+pub timed-wf : (n : ℕ) (t : Table) → Wf t → t .latest ≤ n → Wf (timedTable n t)
 unfolding abs repr
 timed-wf n t w h =
     record {
@@ -142,8 +142,11 @@ module _ (t : Table) (time a : ℕ) (b : Batch) where
         at true true true p q r w = absurd (omega (arith, w))
         at true true false p q r w = record { good = p; made = q; late = r }
 
-    pub accept-wf : Wf (timedTable time t)
-    accept-wf = timed-wf time t (test-wf t (passed .good)) (ltb-false time (t .latest) (passed .late))
+    pub accept-wf : Wf t
+    accept-wf = test-wf t (passed .good)
+
+    pub accept-late : t .latest ≤ time
+    accept-late = ltb-false time (t .latest) (passed .late)
 
     pub accept-few : b .count ≤ 8
     accept-few =
@@ -156,4 +159,4 @@ module _ (t : Table) (time a : ℕ) (b : Batch) where
         f ∙ ap (λ (s : model.State). deliveredOf (tableReply (playedReply (play time a (recordsOf b) s)))) (timed-abs time t)
         ∙ sym (accepted-is true (passed .made) false (passed .late) (passed .good))
 
-pub ruleset door = (batch-none, batch-long, batch-last, accept-refused, accept-wf, accept-few, accept-granted, length-of-map, needs)
+pub ruleset door = (batch-none, batch-long, batch-last, length-of-map, needs)

@@ -242,7 +242,7 @@ fn answered(table: Table, done: Tally) -> Delivered
     }
 }
 
-// Each record by itself, in order, on the table that has the delivery's time.
+// On a table with the delivery's time. "From refusal 4 on, what a refusal leaves is said of its own record; what earlier records did stays."
 fn deliver(t: Table, address: u32, b: Batch) -> Delivered
     requires { ⌜ Wf t ⌝ }
     requires { ⌜ b .count ≤ 8 ⌝ }
@@ -320,6 +320,8 @@ fn refusal(good: bool, made: bool, latest: u64, time: u64) -> u32
     0
 }
 
+// "Earlier records' refusals are ignored; the answer is the last one's, with the count of records not refused (0 at 1 to 3)."
+// "A timed call past check 3 always sets the latest time."
 pub fn accept(t: Table, time: u64, address: u32, b: Batch) -> Delivered
     ensures { λ d. ⌜ d ≡ accepted t time address b ⌝ }
 {

@@ -196,6 +196,7 @@ turn-line r input old new end x h e z w =
   where
     lt-of-ne : (a b : ℕ) → a ≤ b → (a ≡ b → ⊥) → a < b
     lt-of-ne a b p q = omega arith
+
     omega-place : (a b c : ℕ) → b ≡ a + c → a + suc (b - a) ≡ b + 1
     omega-place a b c p = omega arith
 

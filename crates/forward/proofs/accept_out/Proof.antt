@@ -1,5 +1,5 @@
 use Rattle.forward.proofs.Out.{record-tested, out-unformed, out-bad, out-before, out-found}
-use Rattle.forward.proofs.Find.{tested}
+use Rattle.calls.proofs.Called.{tested}
 use borrow.Author.Needs.{needs}
 use Rattle.forward.proofs.accept_out.Statement.{statement}
 use Rattle.forward.proofs.accept_out.Tie as tie

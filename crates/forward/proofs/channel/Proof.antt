@@ -1,4 +1,4 @@
-use Rattle.forward.proofs.Find.{tested, key-tested}
+use Rattle.calls.proofs.Called.{tested, key-tested}
 use Rattle.forward.proofs.Steps.{steps}
 use borrow.Author.Needs.{needs}
 use Rattle.forward.proofs.channel.Statement.{statement}

@@ -4,11 +4,11 @@ use borrow.Author.Needs.{needs}
 use Rattle.forward.proofs.find_on.Statement.{statement}
 use Rattle.forward.proofs.find_on.Tie as tie
 
+index-of-requires : tie.Need-index-of-requires
+index-of-requires c κs = search needs
+
 if-flagged-requires : tie.Need-if-flagged-requires
 if-flagged-requires c κs = search needs
-
-if-flagged-requires-2 : tie.Need-if-flagged-requires-2
-if-flagged-requires-2 c κs = search needs
 
 on-place-requires : tie.Need-on-place-requires
 on-place-requires c κs = search needs
@@ -48,14 +48,14 @@ returns-2 c =
     let e = c .before .before .before .before in
     let p = e .before in
     let s = p .before .before .before in
-    find-on-made (s .args .t1) (s .args .k) _ _ _ _ _ _ _ (s .pre .0) (s .pre .1 .0) (s .pre .1 .1) (p .before .before .if-flagged .ensures) (p .before .if-flagged2 .ensures) (p .on-place .ensures) (e .if1 .left) (c .before .before .on-or-new .ensures) (c .before .on-view .ensures) (c .counted .ensures)
+    find-on-made (s .args .t1) (s .args .k) _ _ _ _ _ _ _ (s .pre .0) (s .pre .1 .0) (s .pre .1 .1) (p .before .before .index-of .ensures) (p .before .if-flagged .ensures) (p .on-place .ensures) (e .if1 .left) (c .before .before .on-or-new .ensures) (c .before .on-view .ensures) (c .counted .ensures)
 
 pub find-on-spec : {M : Type 1} → statement M
 find-on-spec =
     tie.close
     (tie.spec
+    index-of-requires
     if-flagged-requires
-    if-flagged-requires-2
     on-place-requires
     refused-requires
     returns

@@ -1,6 +1,11 @@
+use borrow.Author.Needs.{needs}
+use Rattle.calls.proofs.Called.{on-index}
 use Rattle.handout.proofs.Next.{handing, on-next-kept, on-lent-here}
 use Rattle.handout.proofs.next_on.Statement.{statement}
 use Rattle.handout.proofs.next_on.Tie as tie
+
+index-of-requires : tie.Need-index-of-requires
+index-of-requires c κs = search handing
 
 on-place-requires : tie.Need-on-place-requires
 on-place-requires c κs = search handing
@@ -30,7 +35,10 @@ pop-front-requires : tie.Need-pop-front-requires
 pop-front-requires c κs = search handing
 
 mul-d : tie.Need-mul-d
-mul-d c = search handing
+mul-d c =
+    let e = c .before .before .before .before .before .before .before .before .before in
+    let h = on-index _ _ (e .before .before .before .before .pre .0) (e .if1 .left) in
+    search needs
 
 element-set-from-d : tie.Need-element-set-from-d
 element-set-from-d c = search handing
@@ -45,6 +53,7 @@ pub next-on-spec : {M : Type 1} → statement M
 next-on-spec =
     tie.close
     (tie.spec
+    index-of-requires
     on-place-requires
     cast-if1
     returns

@@ -1,4 +1,5 @@
-use Rattle.receive.proofs.Door.{accept-refused, accept-wf, accept-few, accept-granted}
+use native.Mathlib.Omega.{arith}
+use Rattle.receive.proofs.Door.{timed-wf, accept-refused, accept-wf, accept-late, accept-few, accept-granted}
 use Rattle.receive.proofs.accept.Statement.{statement}
 use Rattle.receive.proofs.accept.Tie as tie
 
@@ -28,7 +29,9 @@ deliver-requires c κs =
     let m = r .before in
     let w = m .before in
     let g = w .before .args in
-    (accept-wf (g .t) (g .time) (g .address) (g .b) _ _ _ (w .well-formed .ensures) (m .batch-made .ensures) (r .refusal .ensures) (c .if1 .left), accept-few (g .t) (g .time) (g .address) (g .b) _ _ _ (w .well-formed .ensures) (m .batch-made .ensures) (r .refusal .ensures) (c .if1 .left))
+    let f = accept-wf (g .t) (g .time) (g .address) (g .b) _ _ _ (w .well-formed .ensures) (m .batch-made .ensures) (r .refusal .ensures) (c .if1 .left) in
+    let l = accept-late (g .t) (g .time) (g .address) (g .b) _ _ _ (w .well-formed .ensures) (m .batch-made .ensures) (r .refusal .ensures) (c .if1 .left) in
+    (timed-wf _ (g .t) f (omega (arith, l)), accept-few (g .t) (g .time) (g .address) (g .b) _ _ _ (w .well-formed .ensures) (m .batch-made .ensures) (r .refusal .ensures) (c .if1 .left))
 
 returns-2 : tie.Need-returns-2
 returns-2 c =

@@ -1,4 +1,5 @@
-use Rattle.receive.proofs.Door.{door}
+use native.Mathlib.Omega.{arith}
+use Rattle.receive.proofs.Door.{door, batch-long}
 use Rattle.receive.proofs.batch_made.Statement.{statement}
 use Rattle.receive.proofs.batch_made.Tie as tie
 
@@ -9,7 +10,7 @@ returns : tie.Need-returns
 returns c = search door
 
 returns-2 : tie.Need-returns-2
-returns-2 c = search door
+returns-2 c = batch-long (c .before .before .args .t1) (omega (arith, c .if2 .taken))
 
 sub-r : tie.Need-sub-r
 sub-r c = search door

@@ -83,21 +83,19 @@ loop-again c =
 
 mul-e : tie.Need-mul-e Inv-loop μ-loop
 mul-e c =
-    let y = c in
-    let x = y .before .before in
+    let x = c .before .before in
     let l = x .before .before .before .before .before .loop in
     let g = x .before .before .before .before .before .before .before .before .args in
     let h = x .before .before .before .before .loop-test .taken in
-    on-fits _ (on-index (g .t) (g .address) (g .t3) (l .u) (l .keys) (l .done) (l .i) _ (l .inv) h _ (x .before .before .aimed .ensures) (x .if1 .left) (y .if2 .taken))
+    on-fits _ (on-index (g .t) (g .address) (g .t3) (l .u) (l .keys) (l .done) (l .i) _ (l .inv) h _ (x .before .before .aimed .ensures) (x .if1 .left) (c .if2 .taken))
 
 element-copy-out-e : tie.Need-element-copy-out-e Inv-loop μ-loop
 element-copy-out-e c =
-    let y = c in
-    let x = y .before .before in
+    let x = c .before .before in
     let l = x .before .before .before .before .before .loop in
     let g = x .before .before .before .before .before .before .before .before .args in
     let h = x .before .before .before .before .loop-test .taken in
-    on-index (g .t) (g .address) (g .t3) (l .u) (l .keys) (l .done) (l .i) _ (l .inv) h _ (x .before .before .aimed .ensures) (x .if1 .left) (y .if2 .taken)
+    on-index (g .t) (g .address) (g .t3) (l .u) (l .keys) (l .done) (l .i) _ (l .inv) h _ (x .before .before .aimed .ensures) (x .if1 .left) (c .if2 .taken)
 
 on-step-requires : tie.Need-on-step-requires Inv-loop μ-loop
 on-step-requires c κs =
@@ -173,8 +171,6 @@ in-use-requires c κs =
     let y = c .before .before .before .before .before .before .before in
     let x = y .before .before in
     let l = x .before .before .before .before .before .loop in
-    let g = x .before .before .before .before .before .before .before .before .args in
-    let h = x .before .before .before .before .loop-test .taken in
     l .inv .ons
 
 with-on-key-requires : tie.Need-with-on-key-requires Inv-loop μ-loop
@@ -215,21 +211,19 @@ loop-again-3 c =
 
 mul-e-2 : tie.Need-mul-e-2 Inv-loop μ-loop
 mul-e-2 c =
-    let y = c in
-    let x = y .before .before in
+    let x = c .before .before in
     let l = x .before .before .before .before .before .loop in
     let g = x .before .before .before .before .before .before .before .before .args in
     let h = x .before .before .before .before .loop-test .taken in
-    off-fits _ (off-index (g .t) (g .address) (g .t3) (l .u) (l .keys) (l .done) (l .i) _ (l .inv) h _ (x .before .before .aimed .ensures) (x .if1 .left) (y .if2 .left))
+    off-fits _ (off-index (g .t) (g .address) (g .t3) (l .u) (l .keys) (l .done) (l .i) _ (l .inv) h _ (x .before .before .aimed .ensures) (x .if1 .left) (c .if2 .left))
 
 element-copy-out-e-2 : tie.Need-element-copy-out-e-2 Inv-loop μ-loop
 element-copy-out-e-2 c =
-    let y = c in
-    let x = y .before .before in
+    let x = c .before .before in
     let l = x .before .before .before .before .before .loop in
     let g = x .before .before .before .before .before .before .before .before .args in
     let h = x .before .before .before .before .loop-test .taken in
-    off-index (g .t) (g .address) (g .t3) (l .u) (l .keys) (l .done) (l .i) _ (l .inv) h _ (x .before .before .aimed .ensures) (x .if1 .left) (y .if2 .left)
+    off-index (g .t) (g .address) (g .t3) (l .u) (l .keys) (l .done) (l .i) _ (l .inv) h _ (x .before .before .aimed .ensures) (x .if1 .left) (c .if2 .left)
 
 off-step-requires : tie.Need-off-step-requires Inv-loop μ-loop
 off-step-requires c κs =
@@ -305,8 +299,6 @@ in-use-requires-2 c κs =
     let y = c .before .before .before .before .before .before .before in
     let x = y .before .before in
     let l = x .before .before .before .before .before .loop in
-    let g = x .before .before .before .before .before .before .before .before .args in
-    let h = x .before .before .before .before .loop-test .taken in
     up-to-eight _ (l .inv .offs)
 
 with-off-key-requires : tie.Need-with-off-key-requires Inv-loop μ-loop

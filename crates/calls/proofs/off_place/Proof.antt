@@ -1,6 +1,6 @@
-use Rattle.handout.proofs.Next.{placing}
-use Rattle.handout.proofs.off_place.Statement.{statement}
-use Rattle.handout.proofs.off_place.Tie as tie
+use Rattle.calls.proofs.Placing.{placing}
+use Rattle.calls.proofs.off_place.Statement.{statement}
+use Rattle.calls.proofs.off_place.Tie as tie
 
 keys-of-requires : tie.Need-keys-of-requires
 keys-of-requires c κs = search placing

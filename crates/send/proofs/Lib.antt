@@ -1,0 +1,6 @@
+pub mod Lists
+pub mod Outside
+pub mod Written
+pub mod Added
+pub mod Sent
+pub mod Preparing
