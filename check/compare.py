@@ -391,7 +391,7 @@ def other(name):
 def stored(oracle, driver, store):
     """Replays check/scripts: the answers to NAME.txt must be those in NAME.out. A name that begins with `wide-` has lines of other
     calls, which are no driver's. With the original at hand it is asked too, but for what only the port refuses, and must agree."""
-    failures = lines = asked = 0
+    failures = lines = asked = driven = 0
     names = sorted(name[:-4] for name in os.listdir(SCRIPTS) if name.endswith(".txt"))
     for name in names:
         path = os.path.join(SCRIPTS, name)
@@ -416,7 +416,9 @@ def stored(oracle, driver, store):
         failures += bool(found) or kept != answers
         lines += len(played.answers)
         asked += len(played.expected()) - 1
-    print(f"stored scripts: {len(names)}, {lines} answers" + (f", {asked} of them the original's" if oracle else ""))
+        driven += 0 if wide else len(played.answers)
+    others = [f"{asked} of them the original's"] * bool(oracle) + [f"{driven} of them the driver's"] * bool(driver)
+    print(", ".join([f"stored scripts: {len(names)}, {lines} answers"] + others))
     return 1 if failures or not names else 0
 
 

@@ -768,10 +768,11 @@ class Words:
             raise Bad
         if len(word) > 1 and word[0] == 48:
             mark("driver: leading zero")
-        if len(word.lstrip(b"0")) > 20 or int(word) >= bound:
+        digits = word.lstrip(b"0") or b"0"
+        if len(digits) > 20 or int(digits) >= bound:
             mark("driver: number that does not fit")
             raise Bad
-        return int(word)
+        return int(digits)
 
     def end(self):
         if self.words:

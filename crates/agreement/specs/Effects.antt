@@ -85,7 +85,7 @@ pub record RecordEffects : Type 0 where
   -- every record of a delivery: the row of its refusal, from the state that the earlier records left
   pub records : (t a : ℕ) (r : Record) (s : State) (x : Refusal) → RecordRefused t a r s x → recordStep t a r s .state ≡ left x (recordStages a r s)
   pub record-numbers : (t a : ℕ) (r : Record) (s : State) (x : Refusal) → RecordRefused t a r s x → among (numbersOfRecord (wellMade r)) x ≡ true
-  -- a delivery refused by 2 or 3: "changes nothing", and the count is 0
+  -- a delivery refused by 2 or 3 changes nothing, and the count is 0
   pub deliveries : (t a : ℕ) (rs : List Record) (s : State) (x : Refusal) (n : ℕ) → reply (accept t a rs) s .answer ≡ undelivered x n → among (2 ∷ 3 ∷ []) x ≡ true → (reply (accept t a rs) s .state ≡ s) × (n ≡ 0)
   -- "From refusal 4 on, what a refusal leaves is said of its own record; what earlier records did stays": the last record is refused
   pub last-records :

@@ -119,7 +119,7 @@ outRows t a r s =
 abbrev pub findRows : Key → State → List Row
 findRows k s = row outOfRange (not (keyMade k)) ∷ row tableFull (not (hasPlace (isSet (k .on)) (k .address) (keyIndex k) (s .protocol))) ∷ []
 
--- 12 of the bundles that wait; "Next bundle without a bundle answers none"
+-- 12 of the bundles that wait; where none does, none is answered
 abbrev pub tooShort : ℕ → List (List ℕ) → Bool
 tooShort places [] = false
 tooShort places (b ∷ bs) = not (leb (length b) places)

@@ -1,7 +1,7 @@
 -- What every call answers and leaves, for every table and input: refusal 1 and the same table where it is not well formed, else the
 -- port's function of the model at the table's state, put back.
 use mathlib.Core.Bool.{Bool, true, false}
-use mathlib.Core.List.{List, []}
+use mathlib.Core.List.{List}
 use Prim.Native.Nat.{ℕ}
 use Rattle.packet.specs.declared.Record.{Record}
 use Rattle.packet.specs.declared.Key.{Key}

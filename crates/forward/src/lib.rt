@@ -204,28 +204,28 @@ fn out_off(t: Table, time: u64, address: u32, r: Record) -> Found
     ensures { λ f. ⌜ f ≡ outIn t time address r ⌝ }
 {
     let at = calls::off_place(t, address);
-    let mut u = t;
-    u.latest = time;
+    let mut w = t;
+    w.latest = time;
     if 4 <= at {
-        return refused(u, 4);
+        return refused(w, 4);
     }
     let there = at < t.offcount as usize;
     let c = t.offs[at];
     let d = off_or_new(c, there, address);
     let s = records::off_forward(d, r, time);
     if s.code == 11 {
-        return refused(u, 11);
+        return refused(w, 11);
     }
     let x = s.channel;
     let v = channel::off_view(x);
     let n = counted(t.offcount, there);
-    u.offs[at] = x;
-    u.offcount = n;
+    w.offs[at] = x;
+    w.offcount = n;
     if s.code != 0 {
-        return refused(u, s.code);
+        return refused(w, s.code);
     }
     Found {
-        table: u,
+        table: w,
         code: 0,
         view: v,
     }

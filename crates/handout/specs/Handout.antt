@@ -18,7 +18,7 @@ use Rattle.calls.specs.Answers.{codeOf, someOf, lengthOf}
 use Rattle.calls.specs.Calls.{tableReply, poppedOf}
 use Rattle.handout.specs.declared.Offer.{Offer}
 
--- the answer from the bundles that wait and the length of the lent list: "Next bundle without a bundle answers none", whatever the length
+-- the answer from the bundles that wait and the length of the lent list: where none does, none is answered, whatever the length
 abbrev pub offeredIf : Bool → List ℕ → Answer
 offeredIf true b = bundle b
 offeredIf false b = refused listTooShort

@@ -125,9 +125,9 @@ fn next_off(t: Table, k: Key, lent: &mut [u32]) -> Popped
             len: 0,
         };
     }
-    let rest = bundles::pop_front(b);
+    let left = bundles::pop_front(b);
     let mut d = c;
-    d.bundles = rest;
+    d.bundles = left;
     let mut u = t;
     u.offs[at] = d;
     Popped {

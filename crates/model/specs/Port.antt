@@ -207,7 +207,7 @@ abbrev pub handOut : Bool → Key → List ℕ → List (List ℕ) → State →
 handOut true k b bs s = grant (bundle b) (withProtocol (rust.popped k bs (s .protocol)) s)
 handOut false k b bs s = refuse listTooShort (untimed s)
 
--- "Next bundle without a bundle answers none", whatever the lent list's length
+-- next bundle without a bundle answers none, whatever the lent list's length (docs/DECISIONS.md, 12)
 abbrev pub next : List (List ℕ) → Key → ℕ → State → Reply
 next [] k places s = grant noBundle s
 next (b ∷ bs) k places s = handOut (leb (length b) places) k b bs s

@@ -1,7 +1,7 @@
 -- The call, a return at a time: 1, 3, 12, and the rows sent again. Assumes nothing.
 use mathlib.Core.Path.{_≡_, refl, ap, sym, _∙_}
 use mathlib.Core.Bool.{Bool, true, false, not}
-use mathlib.Core.List.{List, [], _∷_, _++_, map}
+use mathlib.Core.List.{List, _++_, map}
 use Prim.Native.Nat.{ℕ, _+_, _*_, _≤_, _<_}
 use native.Mathlib.Omega.{arith}
 use borrow.Author.Tests.{le-leb, lt-leb, not-true, not-false}
@@ -13,7 +13,7 @@ use Rattle.packet.specs.declared.Resend.{Resend}
 use Rattle.model.specs.State as model
 use Rattle.model.specs.Refusals.{notWellFormed, timeBelow, listTooShort}
 use Rattle.model.specs.Rust.{resent, allRows, resentOff, resentOn}
-use Rattle.model.specs.Calls.{takeResends, Answer, refused, resends, flat, lent}
+use Rattle.model.specs.Calls.{takeResends, refused, resends, flat, lent}
 use Rattle.model.specs.Port.{Reply, reply, resend, takeResendsS}
 use Rattle.channel.specs.declared.OffChannel.{OffChannel}
 use Rattle.channel.specs.declared.OnChannel.{OnChannel}
@@ -115,6 +115,12 @@ module _ (t : Table) (time timeout giveUp : ℕ) where
   unfolding allRows abs offRows onRows
   rows-are = refl
 
+  pub offs-size : (a : ℕ) → a ≡ length offs → length (flat offs) ≡ 2 * a
+  offs-size a p = omega (arith, length-flat offs)
+
+  pub ons-size : (b : ℕ) → b ≡ length ons → length (flat ons) ≡ 2 * b
+  ons-size b q = omega (arith, length-flat ons)
+
   module _ (a b : ℕ) (p : a ≡ length offs) (q : b ≡ length ons) where
     rows-count : a + b ≡ length rows
     rows-count = omega (arith, ap length rows-are, length-append offs ons)
@@ -122,15 +128,9 @@ module _ (t : Table) (time timeout giveUp : ℕ) where
     numbers-count : length (flat rows) ≡ 2 * (a + b)
     numbers-count = omega (arith, length-flat rows, rows-count)
 
-    pub offs-fit : (l : List ℕ) → 2 * (a + b) ≤ length l → length (flat offs) ≤ length l
-    offs-fit l h = omega (arith, length-flat offs)
-
-    pub ons-fit : (l l₁ : List ℕ) → 2 * (a + b) ≤ length l → l₁ ≡ writtenAt 0 (flat offs) l → 2 * a + length (flat ons) ≤ length l₁
-    ons-fit l l₁ h w =
-        omega (arith, length-flat offs, length-flat ons, ap length w, length-written 0 (flat offs) l (omega (arith, length-flat offs)))
-
     -- both kinds written are all rows written
     all-written : (l l₁ l₂ : List ℕ) → 2 * (a + b) ≤ length l → l₁ ≡ writtenAt 0 (flat offs) l → l₂ ≡ writtenAt (2 * a) (flat ons) l₁ → l₂ ≡ lent (resends rows) l
+    unfolding writtenAt
     all-written l l₁ l₂ h v w =
         let k : 2 * a ≡ 0 + length (flat offs) = omega (arith, length-flat offs) in
         let f : flat offs ++ flat ons ≡ flat rows = sym (flat-append offs ons) ∙ ap flat (sym rows-are) in
@@ -140,6 +140,9 @@ module _ (t : Table) (time timeout giveUp : ℕ) where
         ∙ written-after 0 (flat offs) (flat ons) l (omega (arith, length-flat offs))
         ∙ ap (λ (u : List ℕ). writtenAt 0 u l) f
         ∙ ap (λ (n : ℕ). flat rows ++ drop n l) z
+
+pub same-size : (at : ℕ) (w l l₁ : List ℕ) → l₁ ≡ writtenAt at w l → at + length w ≤ length l → length l₁ ≡ length l
+same-size at w l l₁ e h = ap length e ∙ length-written at w l h
 
 -- ---- 3, 12, and granted
 

@@ -1,4 +1,5 @@
 pub mod Lists
 pub mod Loops
 pub mod Channels
+pub mod Sides
 pub mod Door

@@ -52,11 +52,13 @@ flat-joined A g (x ∷ xs) = flat-append (g x) (joined (map g xs)) ∙ ap (λ (r
 -- ---- a lent list: nothing written, and v written after w
 
 pub written-none : (at : ℕ) (l : List ℕ) → l ≡ writtenAt at [] l
+unfolding writtenAt
 written-none at l =
     let e : at + 0 ≡ at = omega arith in
     sym ((λ j. append-nil (take at l) j ++ drop (e j) l) ∙ take-append-drop at l)
 
 pub written-after : (at : ℕ) (w v l : List ℕ) → at + length w ≤ length l → writtenAt (at + length w) v (writtenAt at w l) ≡ writtenAt at (w ++ v) l
+unfolding writtenAt
 written-after at w v l h =
     let p = take at l ++ w in
     let m = at + length w in
@@ -68,6 +70,15 @@ written-after at w v l h =
     (λ j. a j ++ v ++ b j) ∙ ap (λ (x : List ℕ). x ++ drop (at + length (w ++ v)) l) (append-assoc (take at l) w v)
 
 pub length-written : (at : ℕ) (w l : List ℕ) → at + length w ≤ length l → length (writtenAt at w l) ≡ length l
+unfolding writtenAt
 length-written at w l h =
     omega
     (arith, length-append (take at l ++ w) (drop (at + length w) l), length-append (take at l) w, length-take-le at l (omega arith), length-drop (at + length w) l)
+
+-- what two functions make of a list, where they agree on each of its places
+pub map-same : {A B : Type 0} (f g : A → B) (z : A) (xs : List A) → ((i : ℕ) → i < length xs → f (getD xs i z) ≡ g (getD xs i z)) → map f xs ≡ map g xs
+map-same f g z [] e = refl
+map-same f g z (x ∷ xs) e =
+    let p = e 0 (omega arith) in
+    let q = map-same f g z xs (λ i h. e (suc i) (omega arith)) in
+    λ j. p j ∷ q j

@@ -1,42 +1,64 @@
--- What the inner functions count, write and leave: the first n channels of an array.
+-- What the inner functions count, write and leave.
 use mathlib.Core.Path.{_≡_}
 use mathlib.Core.List.{List, _++_, map}
 use Prim.Native.Nat.{ℕ, _+_, _≤_, _<_}
 use lib.ListN.{length, take, drop, getD}
 use Rattle.lists.specs.Pad.{pad}
-use Rattle.lists.specs.Find.{joined}
+use Rattle.lists.specs.Find.{keepBy, joined}
 use Rattle.packet.specs.declared.Resend.{Resend}
-use Rattle.model.specs.Rust.{rowsOff, rowsOn, resentOff, resentOn}
+use Rattle.model.specs.Rust.{young, due, mark, row, rowsOff, rowsOn, resentOff, resentOn}
+use Rattle.model.specs.Calls.{flat}
+use Rattle.out_list.specs.declared.OutList.{OutList}
+use Rattle.out_list.specs.Out as out
 use Rattle.channel.specs.declared.OffChannel.{OffChannel}
 use Rattle.channel.specs.declared.OnChannel.{OnChannel}
 use Rattle.channel.specs.Channel.{absOff, reprOff, absOn, reprOn, WfOff, WfOn}
+use Rattle.table.specs.declared.Table.{Table}
 use Rattle.table.specs.Table.{zeroOff, zeroOn}
+use Rattle.calls.specs.declared.Resent.{Resent}
+use Rattle.resends.specs.declared.Listed.{Listed}
 
--- their rows, in order of creation
+-- a refusal's answer, with the table that it leaves
+abbrev pub refusedBy : Table → ℕ → Resent
+refusedBy t n = record { table = t; code = n; rows = 0 }
+
+-- a list with w in it from a place on, and the rest as it was
+unfoldable pub writtenAt : ℕ → List ℕ → List ℕ → List ℕ
+writtenAt at w l = take at l ++ w ++ drop (at + length w) l
+
+-- ---- one out list: its rows, and the list after it with the place after the rows
+
+unfoldable pub listRows : ℕ → ℕ → ℕ → ℕ → OutList → List Resend
+listRows a t timeout giveUp o = map (row a) (keepBy (due t timeout) (keepBy (young t giveUp) (out.abs o)))
+
+unfoldable pub listSent : ℕ → ℕ → ℕ → OutList → OutList
+listSent t timeout giveUp o = out.repr (map (mark t timeout) (keepBy (young t giveUp) (out.abs o)))
+
+abbrev pub listed : ℕ → ℕ → ℕ → ℕ → OutList → ℕ → Listed
+listed a t timeout giveUp o at = record { out = listSent t timeout giveUp o; next = at + length (flat (listRows a t timeout giveUp o)) }
+
+-- ---- the first n channels of an array: their rows, in order of creation, and the array after it, whose other places stay zero
+
 unfoldable pub offRows : ℕ → ℕ → ℕ → List OffChannel → ℕ → List Resend
 offRows t timeout giveUp l n = joined (map (rowsOff t timeout giveUp) (map absOff (take n l)))
 
 unfoldable pub onRows : ℕ → ℕ → ℕ → List OnChannel → ℕ → List Resend
 onRows t timeout giveUp l n = joined (map (rowsOn t timeout giveUp) (map absOn (take n l)))
 
--- the array after it; past them it stays zero
 unfoldable pub offsSent : ℕ → ℕ → ℕ → List OffChannel → ℕ → List OffChannel
 offsSent t timeout giveUp l n = pad 4 zeroOff (map reprOff (map (resentOff t timeout giveUp) (map absOff (take n l))))
 
 unfoldable pub onsSent : ℕ → ℕ → ℕ → List OnChannel → ℕ → List OnChannel
 onsSent t timeout giveUp l n = pad 8 zeroOn (map reprOn (map (resentOn t timeout giveUp) (map absOn (take n l))))
 
--- a list with w in it from a place on, and the rest as it was
-abbrev pub writtenAt : ℕ → List ℕ → List ℕ → List ℕ
-writtenAt at w l = take at l ++ w ++ drop (at + length w) l
+-- the first n of an array of N channels are in their form, and the others zero
+pub record InForm {A : Type 0} (N : ℕ) (zero : A) (Form : A → Type 0) (l : List A) (n : ℕ) : Type 0 where
+  pub few : n ≤ N
+  pub each : (i : ℕ) (d : A) → i < n → Form (getD l i d)
+  pub spare : l ≡ pad N zero (take n l)
 
--- the first n of an array of channels are in their form, and the others zero
-pub record OffsWf (l : List OffChannel) (n : ℕ) : Type 0 where
-  pub few : n ≤ 4
-  pub each : (i : ℕ) (d : OffChannel) → i < n → WfOff (getD l i d)
-  pub spare : l ≡ pad 4 zeroOff (take n l)
+abbrev pub OffsWf : List OffChannel → ℕ → Type 0
+OffsWf l n = InForm 4 zeroOff WfOff l n
 
-pub record OnsWf (l : List OnChannel) (n : ℕ) : Type 0 where
-  pub few : n ≤ 8
-  pub each : (i : ℕ) (d : OnChannel) → i < n → WfOn (getD l i d)
-  pub spare : l ≡ pad 8 zeroOn (take n l)
+abbrev pub OnsWf : List OnChannel → ℕ → Type 0
+OnsWf l n = InForm 8 zeroOn WfOn l n

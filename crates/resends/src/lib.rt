@@ -2,15 +2,34 @@
 use calls::Resent;
 use channel::OffChannel;
 use channel::OnChannel;
+use out_list::OutList;
 use table::Table;
 ghost use mathlib.Core.Path.{_≡_};
 ghost use Prim.Native.Nat.{_+_, _≤_};
 ghost use lib.ListN.{length};
 ghost use Rattle.model.specs.Calls.{flat};
+ghost use Rattle.out_list.specs.Out as out;
 ghost use Rattle.calls.specs.Calls.{resendsOf, resendsLent};
-ghost use Rattle.resends.specs.Resends.{offRows, onRows, offsSent, onsSent, writtenAt, OffsWf, OnsWf};
+ghost use Rattle.resends.specs.Resends.{refusedBy, listRows, listed, writtenAt, offRows, onRows, offsSent, onsSent, OffsWf, OnsWf};
 
-// ---- how many rows there are: a list that is too short for them all is not written to, so they are counted first
+// A channel's out list once its rows are written, and the place after them.
+pub struct Listed {
+    pub out: OutList,
+    pub next: usize,
+}
+
+// A refusal's answer: its number, and no rows.
+fn refused(t: Table, code: u32) -> Resent
+    ensures { λ r. ⌜ r ≡ refusedBy t code ⌝ }
+{
+    Resent {
+        table: t,
+        code,
+        rows: 0,
+    }
+}
+
+// ---- how many rows the first n channels have, at most 32 each: a list that lacks room for all rows gets none, so they are counted first
 
 fn offs_due(l: [OffChannel; 4], n: usize, time: u64, timeout: u64, give_up: u64) -> u32
     requires { ⌜ OffsWf l n ⌝ }
@@ -46,10 +65,31 @@ fn ons_due(l: [OnChannel; 8], n: usize, time: u64, timeout: u64, give_up: u64) -
     count
 }
 
-// ---- "in each channel drop entries whose age is not below give-up, then list, as address and handle, those with a handle whose time
-// since last sent is at least the timeout, setting last sent"
+// ---- the rows, from place `at` of the lent list on, and the channels after it
 
-// The first n channels: their rows go to the lent list from its front.
+// "drop entries whose age is not below give-up, then list, as address and handle, those with a handle whose time since last sent is at
+// least the timeout, setting last sent"
+fn resend_list(
+    o: OutList,
+    address: u32,
+    time: u64,
+    timeout: u64,
+    give_up: u64,
+    lent: &mut [u32],
+    at: usize,
+) -> Listed
+    requires { ⌜ out.Wf o ⌝ }
+    requires { ⌜ at + length (flat (listRows address time timeout «give_up» o)) ≤ length (now lent) ⌝ }
+    ensures { λ r. ⌜ r ≡ listed address time timeout «give_up» o at ⌝ }
+    ensures { λ r. ⌜ now (lent .exit) ≡ writtenAt at (flat (listRows address time timeout «give_up» o)) (now (lent .entry)) ⌝ }
+{
+    let kept = out_list::drop_given_up(o, time, give_up);
+    let next = out_list::write_due(kept, address, time, timeout, lent, at);
+    let marked = out_list::mark_due(kept, time, timeout);
+    Listed { out: marked, next }
+}
+
+// The first n channels.
 fn resend_offs(
     l: [OffChannel; 4],
     n: usize,
@@ -57,30 +97,30 @@ fn resend_offs(
     timeout: u64,
     give_up: u64,
     lent: &mut [u32],
+    at: usize,
 ) -> [OffChannel; 4]
     requires { ⌜ OffsWf l n ⌝ }
-    requires { ⌜ length (flat (offRows time timeout «give_up» l n)) ≤ length (now lent) ⌝ }
+    requires { ⌜ at + length (flat (offRows time timeout «give_up» l n)) ≤ length (now lent) ⌝ }
     ensures { λ r. ⌜ r ≡ offsSent time timeout «give_up» l n ⌝ }
-    ensures { λ r. ⌜ now (lent .exit) ≡ writtenAt 0 (flat (offRows time timeout «give_up» l n)) (now (lent .entry)) ⌝ }
+    ensures { λ r. ⌜ now (lent .exit) ≡ writtenAt at (flat (offRows time timeout «give_up» l n)) (now (lent .entry)) ⌝ }
 {
     let mut r = l;
-    let mut k: usize = 0;
+    let mut k = at;
     let mut i: usize = 0;
     while i < n {
         let c = r[i];
         let o = c.out;
-        let kept = out_list::drop_given_up(o, time, give_up);
-        k = out_list::write_due(kept, c.address, time, timeout, lent, k);
-        let marked = out_list::mark_due(kept, time, timeout);
+        let s = resend_list(o, c.address, time, timeout, give_up, lent, k);
+        let sent = s.out;
         let mut d = c;
-        d.out = marked;
+        d.out = sent;
         r[i] = d;
+        k = s.next;
         i += 1;
     }
     r
 }
 
-// The same of on-channels, from place `at` of the lent list on.
 fn resend_ons(
     l: [OnChannel; 8],
     n: usize,
@@ -101,12 +141,12 @@ fn resend_ons(
     while i < n {
         let c = r[i];
         let o = c.out;
-        let kept = out_list::drop_given_up(o, time, give_up);
-        k = out_list::write_due(kept, c.address, time, timeout, lent, k);
-        let marked = out_list::mark_due(kept, time, timeout);
+        let s = resend_list(o, c.address, time, timeout, give_up, lent, k);
+        let sent = s.out;
         let mut d = c;
-        d.out = marked;
+        d.out = sent;
         r[i] = d;
+        k = s.next;
         i += 1;
     }
     r
@@ -118,18 +158,10 @@ pub fn take_resends(t: Table, time: u64, timeout: u64, give_up: u64, lent: &mut 
     ensures { λ r. ⌜ now (lent .exit) ≡ resendsLent t time timeout «give_up» (now (lent .entry)) ⌝ }
 {
     if !table::well_formed(t) {
-        return Resent {
-            table: t,
-            code: 1,
-            rows: 0,
-        };
+        return refused(t, 1);
     }
     if time < t.latest {
-        return Resent {
-            table: t,
-            code: 3,
-            rows: 0,
-        };
+        return refused(t, 3);
     }
     let mut u = t;
     u.latest = time;
@@ -139,22 +171,11 @@ pub fn take_resends(t: Table, time: u64, timeout: u64, give_up: u64, lent: &mut 
     let ons = ons_due(b, t.oncount as usize, time, timeout, give_up);
     let rows = offs + ons;
     if lent.len() < 2 * rows as usize {
-        return Resent {
-            table: u,
-            code: 12,
-            rows: 0,
-        };
+        return refused(u, 12);
     }
-    let x = resend_offs(a, t.offcount as usize, time, timeout, give_up, lent);
-    let y = resend_ons(
-        b,
-        t.oncount as usize,
-        time,
-        timeout,
-        give_up,
-        lent,
-        2 * offs as usize,
-    );
+    let after = 2 * offs as usize;
+    let x = resend_offs(a, t.offcount as usize, time, timeout, give_up, lent, 0);
+    let y = resend_ons(b, t.oncount as usize, time, timeout, give_up, lent, after);
     u.offs = x;
     u.ons = y;
     Resent {

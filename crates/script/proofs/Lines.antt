@@ -1,23 +1,22 @@
 -- An input cut into lines, a line at a time, and what the walk over it owes. Assumes nothing.
 use mathlib.Core.Path.{_≡_, refl, sym, ap, _∙_, subst}
-use mathlib.Core.Logic.{_⊎_, inl, inr}
 use mathlib.Core.Bool.{Bool, true, false, cond}
 use mathlib.Core.List.{List, [], _∷_, _++_, append-assoc, append-nil}
-use Prim.Native.Nat.{ℕ, suc, _+_, _-_, _≤_, _<_}
+use Prim.Native.Nat.{ℕ, zero, suc, _+_, _-_, _≤_, _<_}
 use native.Mathlib.Numerals.{add-one}
 use native.Mathlib.Omega.{arith}
 use borrow.Author.Tests.{eq-eqb, ne-eqb, lt-ltb, le-ltb, ltb-true, ltb-false, eqb-true, eqb-false}
 use lib.Dec.{eqb, ltb}
-use lib.ListN.{length, take, drop, getD, length-append, length-drop, drop-of-length-le}
+use lib.ListN.{length, take, drop, getD, length-append, length-drop, take-append-drop, drop-of-length-le}
 use lib.Seq.{length-take-le, take-at, drop-at, drop-drop, drop-cons, drop-length, take-all, take-length}
 use Rattle.writing.specs.Answers.{badLine}
-use Rattle.writing.specs.Wrote.{Wrote, put}
+use Rattle.writing.specs.Wrote.{Wrote}
 use Rattle.writing.proofs.Places.{retold}
 use Rattle.script.specs.declared.State.{State}
 use Rattle.script.specs.declared.Stepped.{Stepped}
 use Rattle.script.specs.declared.Ran.{Ran}
 use Rattle.script.specs.Script.{start, stepOf, Says}
-use Rattle.script.specs.Input.{Cut, inFront, cutOf, answers, unfinished, cutAnswers, runFrom, read, runOf, feedAt, cut, Turned, Told, Left}
+use Rattle.script.specs.Input.{Cut, inFront, cutOf, answers, unfinished, cutAnswers, runFrom, read, runOf, Part, noPart, behind, lastPart, partOf, partFrom, feedAt, cut, Turned, Told, Left}
 
 -- ---- the first line feed
 
@@ -155,6 +154,103 @@ unfolding runFrom answers
 run-last s [] h p = absurd (omega arith)
 run-last s (b ∷ bs) h p = ap (λ (c : Cut). cutAnswers s c) (cut-rest (b ∷ bs) h)
 
+unfinished-some : (l : List ℕ) → 0 < length l → unfinished l ≡ badLine
+unfinished-some [] h = absurd (omega arith)
+unfinished-some (b ∷ bs) h = refl
+
+-- ---- a part of the answers
+
+part-full : (room : ℕ) (s : State) (ls : List (List ℕ)) (rest : List ℕ) → room < 800 → partOf room s ls rest ≡ noPart s
+unfolding partOf
+part-full room s [] rest h = rw (lt-ltb room 800 h)
+part-full room s (l ∷ ls) rest h = rw (lt-ltb room 800 h)
+
+part-none : (room : ℕ) (s : State) → partFrom room s [] ≡ noPart s
+unfolding cutOf partOf
+part-none room s = same (ltb room 800)
+  where
+    same : (x : Bool) → cond x (noPart s) (noPart s) ≡ noPart s
+    same true = refl
+    same false = refl
+
+part-cons : (room : ℕ) (s : State) (l : List ℕ) (ls : List (List ℕ)) (rest : List ℕ) → 800 ≤ room
+    → partOf room s (l ∷ ls) rest ≡ behind (stepOf s l .text) (length l + 1) (partOf (room - length (stepOf s l .text)) (stepOf s l .state) ls rest)
+unfolding partOf
+part-cons room s l ls rest h = rw (le-ltb room 800 h)
+
+part-rest : (room : ℕ) (s : State) (rest : List ℕ) → 800 ≤ room → partOf room s [] rest ≡ lastPart s rest
+unfolding partOf
+part-rest room s rest h = rw (le-ltb room 800 h)
+
+part-line : (room : ℕ) (s : State) (l : List ℕ) (k : ℕ) → 800 ≤ room → k ≡ feedAt l → k < length l
+    → partFrom room s l ≡ behind (stepOf s (take k l) .text) (k + 1) (partFrom (room - length (stepOf s (take k l) .text)) (stepOf s (take k l) .state) (drop (suc k) l))
+part-line room s l k h e m =
+    let p = partFrom (room - length (stepOf s (take k l) .text)) (stepOf s (take k l) .state) (drop (suc k) l) in
+    ap (λ (c : Cut). partOf room s (c .lines) (c .rest)) (cut-line l (omega (arith, e)) ∙ ap (λ (j : ℕ). first j l) (sym e))
+    ∙ part-cons room s (take k l) (cutOf (drop (suc k) l) .lines) (cutOf (drop (suc k) l) .rest) h
+    ∙ ap (λ (j : ℕ). behind (stepOf s (take k l) .text) (j + 1) p) (length-take-le k l (omega arith))
+
+part-last : (room : ℕ) (s : State) (l : List ℕ) → 800 ≤ room → feedAt l ≡ length l → partFrom room s l ≡ lastPart s l
+part-last room s l h e = ap (λ (c : Cut). partOf room s (c .lines) (c .rest)) (cut-rest l e) ∙ part-rest room s l h
+
+-- its answers, and then those to what it leaves, are all
+
+abbrev Goes : State → List ℕ → Part → Type 0
+Goes s input p = runFrom s input ≡ p .text ++ runFrom (p .state) (drop (p .taken) input)
+
+goes-last : (s : State) (input : List ℕ) → feedAt input ≡ length input → Goes s input (lastPart s input)
+goes-last s [] h = refl
+goes-last s (b ∷ bs) h =
+    run-last s (b ∷ bs) h (omega arith)
+    ∙ sym (ap (λ (l : List ℕ). badLine ++ l) (ap (λ (l : List ℕ). runFrom s l) (drop-length (b ∷ bs)) ∙ run-none s))
+
+goes-line : (s : State) (input : List ℕ) (k : ℕ) (p : Part) → k ≡ feedAt input → k < length input → Goes (stepOf s (take k input) .state) (drop (suc k) input) p
+    → Goes s input (behind (stepOf s (take k input) .text) (k + 1) p)
+goes-line s input k p e m more =
+    let t = stepOf s (take k input) .text in
+    let over : drop (p .taken) (drop (suc k) input) ≡ drop (k + 1 + p .taken) input =
+    drop-drop (p .taken) (suc k) input ∙ ap (λ (j : ℕ). drop (j + p .taken) input) (sym (add-one k)) in
+    run-line s input k e m
+    ∙ ap (λ (l : List ℕ). t ++ l) (more ∙ ap (λ (l : List ℕ). p .text ++ runFrom (p .state) l) over)
+    ∙ sym (append-assoc t (p .text) (runFrom (p .state) (drop (k + 1 + p .taken) input)))
+
+goes-if : (room : ℕ) (s : State) (input : List ℕ) → ((n : ℕ) (u : State) (l : List ℕ) → length l < length input → Goes u l (partFrom n u l)) → Goes s input (partFrom room s input)
+goes-if room s input more = by-room (ltb room 800) refl
+  where
+    by-feed : 800 ≤ room → (x : Bool) → ltb (feedAt input) (length input) ≡ x → Goes s input (partFrom room s input)
+    by-feed h true e =
+        let m : feedAt input < length input = ltb-true (feedAt input) (length input) e in
+        let t = stepOf s (take (feedAt input) input) .text in
+        let u = stepOf s (take (feedAt input) input) .state in
+        let rest = drop (suc (feedAt input)) input in
+        subst (λ (p : Part). Goes s input p)
+        (sym (part-line room s input (feedAt input) h refl m))
+        (goes-line s input (feedAt input) (partFrom (room - length t) u rest) refl m (more (room - length t) u rest (omega (arith, length-drop (suc (feedAt input)) input))))
+    by-feed h false e =
+        let z : feedAt input ≡ length input = omega (arith, ltb-false (feedAt input) (length input) e, feed-within input) in
+        subst (λ (p : Part). Goes s input p) (sym (part-last room s input h z)) (goes-last s input z)
+
+    by-room : (x : Bool) → ltb room 800 ≡ x → Goes s input (partFrom room s input)
+    by-room true e = subst (λ (p : Part). Goes s input p) (sym (part-full room s (cutOf input .lines) (cutOf input .rest) (ltb-true room 800 e))) refl
+    by-room false e = by-feed (ltb-false room 800 e) (ltb (feedAt input) (length input)) refl
+
+goes-n : (n room : ℕ) (s : State) (input : List ℕ) → length input ≤ n → Goes s input (partFrom room s input)
+goes-n zero room s input h = goes-if room s input (λ (m : ℕ) (u : State) (l : List ℕ) (q : length l < length input). absurd (omega arith))
+goes-n (suc n) room s input h = goes-if room s input (λ (m : ℕ) (u : State) (l : List ℕ) (q : length l < length input). goes-n n m u l (omega arith))
+
+pub part-said : (room : ℕ) (s : State) (input : List ℕ) → runFrom s input ≡ partFrom room s input .text ++ runFrom (partFrom room s input .state) (drop (partFrom room s input .taken) input)
+part-said room s input = goes-n (length input) room s input (omega arith)
+
+-- with room for a line, a part takes one
+pub part-on : (room : ℕ) (s : State) (input : List ℕ) → 800 ≤ room → 0 < length input → 0 < partFrom room s input .taken
+part-on room s input h l = by-feed (ltb (feedAt input) (length input)) refl
+  where
+    by-feed : (x : Bool) → ltb (feedAt input) (length input) ≡ x → 0 < partFrom room s input .taken
+    by-feed true e = omega (arith, ap (λ (p : Part). p .taken) (part-line room s input (feedAt input) h refl (ltb-true (feedAt input) (length input) e)))
+    by-feed false e =
+        let z : feedAt input ≡ length input = omega (arith, ltb-false (feedAt input) (length input) e, feed-within input) in
+        omega (arith, ap (λ (p : Part). p .taken) (part-last room s input h z))
+
 -- ---- a turn: one line, or the last one without its line feed
 
 pub turn-last : (r : Ran) (input old new : List ℕ) (end k : ℕ) → (r .at < length input) × (r .len + 800 ≤ length old)
@@ -163,12 +259,17 @@ pub turn-last : (r : Ran) (input old new : List ℕ) (end k : ℕ) → (r .at < 
 turn-last r input old new end k h e z w =
     let rest = drop (r .at) input in
     let n : length rest ≡ length input - r .at = length-drop (r .at) input in
+    let f : feedAt rest ≡ length rest = omega (arith, h .0) in
+    let c : length rest ≡ end - r .at + 0 = omega (arith, h .0) in
+    let u : unfinished rest ≡ badLine = unfinished-some rest (omega (arith, h .0)) in
     let over : drop end input ≡ [] = ap (λ (j : ℕ). drop j input) z ∙ drop-length input in
     record {
       text = badLine;
-      said =
-          run-last (r .state) rest (omega (arith, h .0)) (omega (arith, h .0))
-          ∙ sym (ap (λ (l : List ℕ). badLine ++ l) (ap (λ (l : List ℕ). runFrom (r .state) l) over ∙ run-none (r .state)));
+      part =
+          λ (room : ℕ) (b : 800 ≤ room).
+          part-last room (r .state) rest b f
+          ∙ _∙_ {A = Part} (λ i. record { state = r .state; taken = c i; text = u i })
+          (sym (ap (λ (p : Part). behind badLine (end - r .at) p) (ap (λ (l : List ℕ). partFrom (room - length badLine) (r .state) l) over ∙ part-none (room - length badLine) (r .state))));
       wrote = retold 64 800 old new badLine badLine (r .len) k refl (omega arith) w;
       on = omega (arith, h .0);
     }
@@ -180,16 +281,20 @@ pub turn-line : (r : Ran) (input old new : List ℕ) (end : ℕ) (x : Stepped) �
 turn-line r input old new end x h e z w =
     let rest = drop (r .at) input in
     let k = end - r .at in
+    let t = stepOf (r .state) (take k rest) .text in
     let n : length rest ≡ length input - r .at = length-drop (r .at) input in
     let f : k ≡ feedAt rest = omega arith in
     let m : k < length rest = lt-of-ne k (length rest) (omega (arith, feed-within rest)) (λ (q : k ≡ length rest). z (omega (arith, h .0))) in
-    let behind : drop (suc k) rest ≡ drop (end + 1) input = drop-drop (suc k) (r .at) input ∙ ap (λ (j : ℕ). drop j input) (omega-place (r .at) end (feedAt rest) e) in
+    let c : k + 1 ≡ end + 1 - r .at = omega (arith, e) in
+    let over : drop (suc k) rest ≡ drop (end + 1) input = drop-drop (suc k) (r .at) input ∙ ap (λ (j : ℕ). drop j input) (place (r .at) end (feedAt rest) e) in
     record {
-      text = stepOf (r .state) (take k rest) .text;
-      said =
-          run-line (r .state) rest k f m
-          ∙ ap (λ (u : State). stepOf (r .state) (take k rest) .text ++ runFrom u (drop (suc k) rest)) (sym (w .state))
-          ∙ ap (λ (l : List ℕ). stepOf (r .state) (take k rest) .text ++ runFrom (x .state) l) behind;
+      text = t;
+      part =
+          λ (room : ℕ) (b : 800 ≤ room).
+          part-line room (r .state) rest k b f m
+          ∙ ap (λ (j : ℕ). behind t j (partFrom (room - length t) (stepOf (r .state) (take k rest) .state) (drop (suc k) rest))) c
+          ∙ ap (λ (u : State). behind t (end + 1 - r .at) (partFrom (room - length t) u (drop (suc k) rest))) (sym (w .state))
+          ∙ ap (λ (l : List ℕ). behind t (end + 1 - r .at) (partFrom (room - length t) (x .state) l)) over;
       wrote = w .wrote;
       on = omega (arith, h .0);
     }
@@ -197,21 +302,37 @@ turn-line r input old new end x h e z w =
     lt-of-ne : (a b : ℕ) → a ≤ b → (a ≡ b → ⊥) → a < b
     lt-of-ne a b p q = omega arith
 
-    omega-place : (a b c : ℕ) → b ≡ a + c → a + suc (b - a) ≡ b + 1
-    omega-place a b c p = omega arith
+    place : (a b c : ℕ) → b ≡ a + c → a + suc (b - a) ≡ b + 1
+    place a b c p = omega arith
 
 -- ---- all turns
 
 pub record Running (s : State) (input : List ℕ) (from : ℕ) (old new : List ℕ) (r : Ran) : Type 0 where
-  pub said : runFrom s (drop from input) ≡ take (r .len) new ++ runFrom (r .state) (drop (r .at) input)
+  pub part : partFrom (length old) s (drop from input) ≡ behind (take (r .len) new) (r .at - from) (partFrom (length old - r .len) (r .state) (drop (r .at) input))
   pub kept : drop (r .len) new ≡ drop (r .len) old
   pub room : r .len ≤ length new
   pub size : length new ≡ length old
-  pub big : 800 ≤ length old
-  pub moved : ((r .at ≡ from) × (r .len ≡ 0)) ⊎ (from < r .at)
+  pub onward : from ≤ r .at
 
-pub run-start : (s : State) (input old : List ℕ) (from : ℕ) → 800 ≤ length old → Running s input from old old (record { state = s; at = from; len = 0 })
-run-start s input old from h = record { said = refl; kept = refl; room = omega arith; size = refl; big = h; moved = inl (refl, refl) }
+pub run-start : (s : State) (input old : List ℕ) (from : ℕ) → Running s input from old old (record { state = s; at = from; len = 0 })
+run-start s input old from =
+    let p = partFrom (length old) s (drop from input) in
+    let c : p .taken ≡ from - from + p .taken = omega arith in
+    let n : length old ≡ length old - 0 = omega arith in
+    record {
+      part =
+          _∙_ {A = Part} (λ i. record { state = p .state; taken = c i; text = p .text })
+          (ap (λ (j : ℕ). behind [] (from - from) (partFrom j s (drop from input))) n);
+      kept = refl;
+      room = omega arith;
+      size = refl;
+      onward = omega arith;
+    }
+
+behind-twice : (a b : List ℕ) (n m k : ℕ) (p : Part) → n + m ≡ k → behind a n (behind b m p) ≡ behind (a ++ b) k p
+behind-twice a b n m k p e =
+    let c : n + (m + p .taken) ≡ k + p .taken = omega arith in
+    λ i. record { state = p .state; taken = c i; text = sym (append-assoc a b (p .text)) i }
 
 pub run-turn : (s : State) (input : List ℕ) (from : ℕ) (old new next : List ℕ) (r x : Ran) → Running s input from old new r → r .len + 800 ≤ length new → Turned r input new next x
     → Running s input from old next x
@@ -221,50 +342,66 @@ run-turn s input from old new next r x v h t =
     let n : length (front ++ text) ≡ x .len = length-append front text ∙ (λ i. length-take-le (r .len) new (v .room) i + length text) ∙ sym (t .wrote .place) in
     let e : next ≡ front ++ text ++ drop (x .len) new = t .wrote .list ∙ ap (λ (j : ℕ). front ++ text ++ drop j new) (sym (t .wrote .place)) in
     let l : length next ≡ length new = omega (arith, ap length e, length-append (front ++ text) (drop (x .len) new), length-drop (x .len) new, t .wrote .place, t .wrote .short) in
-    let behind : drop (x .len) new ≡ drop (x .len) old =
+    let over : drop (x .len) new ≡ drop (x .len) old =
     ap (λ (j : ℕ). drop j new) (t .wrote .place)
     ∙ sym (drop-drop (length text) (r .len) new)
     ∙ ap (λ (q : List ℕ). drop (length text) q) (v .kept)
     ∙ drop-drop (length text) (r .len) old
     ∙ ap (λ (j : ℕ). drop j old) (sym (t .wrote .place)) in
+    let left : length old - r .len - length text ≡ length old - x .len = omega (arith, t .wrote .place) in
+    let p = partFrom (length old - x .len) (x .state) (drop (x .at) input) in
     record {
-      said =
-          v .said
-          ∙ ap (λ (q : List ℕ). front ++ q) (t .said)
-          ∙ sym (append-assoc front text (runFrom (x .state) (drop (x .at) input)))
-          ∙ ap (λ (q : List ℕ). q ++ runFrom (x .state) (drop (x .at) input)) (sym (ap (λ (q : List ℕ). take (x .len) q) e ∙ take-at (front ++ text) (drop (x .len) new) (x .len) n));
-      kept = ap (λ (q : List ℕ). drop (x .len) q) e ∙ drop-at (front ++ text) (drop (x .len) new) (x .len) n ∙ behind;
+      part =
+          v .part
+          ∙ ap (λ (q : Part). behind front (r .at - from) q)
+          (t .part (length old - r .len) (omega (arith, v .size)) ∙ ap (λ (j : ℕ). behind text (x .at - r .at) (partFrom j (x .state) (drop (x .at) input))) left)
+          ∙ behind-twice front text (r .at - from) (x .at - r .at) (x .at - from) p (omega (arith, v .onward, t .on))
+          ∙ ap (λ (q : List ℕ). behind q (x .at - from) p) (sym (ap (λ (q : List ℕ). take (x .len) q) e ∙ take-at (front ++ text) (drop (x .len) new) (x .len) n));
+      kept = ap (λ (q : List ℕ). drop (x .len) q) e ∙ drop-at (front ++ text) (drop (x .len) new) (x .len) n ∙ over;
       room = omega (arith, t .wrote .place, t .wrote .short);
       size = l ∙ v .size;
-      big = v .big;
-      moved = inr (gone (v .moved));
+      onward = omega (arith, v .onward, t .on);
     }
-  where
-    gone : ((r .at ≡ from) × (r .len ≡ 0)) ⊎ (from < r .at) → from < x .at
-    gone (inl a) = omega (arith, a .0, t .on)
-    gone (inr a) = omega (arith, a, t .on)
 
 pub turn-room : (s : State) (input : List ℕ) (from : ℕ) (old new : List ℕ) (r : Ran) → Running s input from old new r → r .at < length input → 800 ≤ length new - r .len
     → (r .at < length input) × (r .len + 800 ≤ length new)
 turn-room s input from old new r v h k = (h, omega (arith, v .room))
 
--- no more room, or the end
-told : (s : State) (all input : List ℕ) (from : ℕ) (old new : List ℕ) (r : Ran) → input ≡ read all → Running s input from old new r → (from < length input → from < r .at)
-    → Told s (read all) from old new r
-told s all input from old new r e v m =
-    subst (λ (l : List ℕ). Told s l from old new r) e (record { said = v .said; kept = v .kept; within = v .room; on = m })
+-- no more is answered: no more room, or the end
+told : (s : State) (all input : List ℕ) (from : ℕ) (old new : List ℕ) (r : Ran) → input ≡ read all → Running s input from old new r
+    → partFrom (length old - r .len) (r .state) (drop (r .at) input) ≡ noPart (r .state)
+    → Told (partFrom (length old) s (drop from (read all))) from old new r
+told s all input from old new r e v z =
+    let p = partFrom (length old) s (drop from input) in
+    let q : p ≡ behind (take (r .len) new) (r .at - from) (noPart (r .state)) = v .part ∙ ap (λ (x : Part). behind (take (r .len) new) (r .at - from) x) z in
+    let t : p .text ≡ take (r .len) new = ap (λ (x : Part). x .text) q ∙ append-nil (take (r .len) new) in
+    let n : length (p .text) ≡ r .len = ap length t ∙ length-take-le (r .len) new (v .room) in
+    let here : r .len ≡ 0 + length (p .text) = omega (arith, n) in
+    subst (λ (l : List ℕ). Told (partFrom (length old) s (drop from l)) from old new r) e
+    (record {
+      state = sym (ap (λ (x : Part). x .state) q);
+      at = omega (arith, ap (λ (x : Part). x .taken) q, v .onward);
+      wrote =
+          record {
+            place = here;
+            short = omega (arith, n, v .room, v .size);
+            list =
+                sym (take-append-drop (r .len) new)
+                ∙ ap (λ (l : List ℕ). take (r .len) new ++ l) (v .kept ∙ ap (λ (j : ℕ). drop j old) here)
+                ∙ ap (λ (l : List ℕ). l ++ drop (0 + length (p .text)) old) (sym t);
+          };
+    })
 
 pub run-full : (s : State) (all input : List ℕ) (from : ℕ) (old new : List ℕ) (r : Ran) → input ≡ read all → Running s input from old new r → length new - r .len < 800
-    → Told s (read all) from old new r
-run-full s all input from old new r e v h = told s all input from old new r e v (λ (q : from < length input). gone (v .moved))
-  where
-    gone : ((r .at ≡ from) × (r .len ≡ 0)) ⊎ (from < r .at) → from < r .at
-    gone (inl a) = absurd (omega (arith, a .1, v .big, v .size))
-    gone (inr a) = a
+    → Told (partFrom (length old) s (drop from (read all))) from old new r
+run-full s all input from old new r e v h =
+    told s all input from old new r e v (part-full (length old - r .len) (r .state) (cutOf (drop (r .at) input) .lines) (cutOf (drop (r .at) input) .rest) (omega (arith, v .size)))
 
 pub run-over : (s : State) (all input : List ℕ) (from : ℕ) (old new : List ℕ) (r : Ran) → input ≡ read all → Running s input from old new r → length input ≤ r .at
-    → Told s (read all) from old new r
-run-over s all input from old new r e v h = told s all input from old new r e v (λ (q : from < length input). omega arith)
+    → Told (partFrom (length old) s (drop from (read all))) from old new r
+run-over s all input from old new r e v h =
+    told s all input from old new r e v
+    (ap (λ (l : List ℕ). partFrom (length old - r .len) (r .state) l) (drop-of-length-le input h) ∙ part-none (length old - r .len) (r .state))
 
 -- ---- the parts one after the other
 
@@ -272,14 +409,20 @@ pub left-start : (input : List ℕ) (s : State) → s ≡ start → Left input s
 unfolding runOf
 left-start input s e = record { written = []; all = ap (λ (u : State). runFrom u (read input)) (sym e) }
 
-pub left-next : (input : List ℕ) (s : State) (at : ℕ) (old new : List ℕ) (x : Ran) → Left input s at → Told s (read input) at old new x → Left input (x .state) (x .at)
+abbrev Next : List ℕ → State → ℕ → List ℕ → List ℕ → Ran → Type 0
+Next input s at old new x = Told (partFrom (length old) s (drop at (read input))) at old new x
+
+pub left-next : (input : List ℕ) (s : State) (at : ℕ) (old new : List ℕ) (x : Ran) → Left input s at → Next input s at old new x → Left input (x .state) (x .at)
 left-next input s at old new x l t =
+    let rest = drop at (read input) in
+    let p = partFrom (length old) s rest in
+    let over : drop (p .taken) rest ≡ drop (x .at) (read input) = drop-drop (p .taken) at (read input) ∙ ap (λ (j : ℕ). drop j (read input)) (sym (t .at)) in
     record {
-      written = l .written ++ take (x .len) new;
+      written = l .written ++ p .text;
       all =
           l .all
-          ∙ ap (λ (q : List ℕ). l .written ++ q) (t .said)
-          ∙ sym (append-assoc (l .written) (take (x .len) new) (runFrom (x .state) (drop (x .at) (read input))));
+          ∙ ap (λ (q : List ℕ). l .written ++ q) (part-said (length old) s rest ∙ ap (λ (q : List ℕ). p .text ++ runFrom (p .state) q) over ∙ ap (λ (u : State). p .text ++ runFrom u (drop (x .at) (read input))) (sym (t .state)))
+          ∙ sym (append-assoc (l .written) (p .text) (runFrom (x .state) (drop (x .at) (read input))));
     }
 
 -- at the end all is written
@@ -294,5 +437,12 @@ pub read-all : (input : List ℕ) → length input ≤ 60000 → read input ≡ 
 unfolding read
 read-all input h = take-all 60000 input h
 
-pub left-less : (input : List ℕ) (s : State) (at : ℕ) (old new : List ℕ) (x : Ran) → length input ≤ 60000 → at < length input → Told s (read input) at old new x → at < x .at
-left-less input s at old new x h k t = t .on (omega (arith, ap length (read-all input h)))
+pub left-less : (input : List ℕ) (s : State) (at : ℕ) (old new : List ℕ) (x : Ran) → length input ≤ 60000 → at < length input → 800 ≤ length old → Next input s at old new x → at < x .at
+left-less input s at old new x h k b t =
+    let n : length (drop at (read input)) ≡ length (read input) - at = length-drop at (read input) in
+    let m : length (read input) ≡ length input = ap length (read-all input h) in
+    omega (arith, t .at, part-on (length old) s (drop at (read input)) b (omega (arith, n, m)))
+
+-- what is written lies in the buffer
+pub left-within : (p : Part) (at : ℕ) (old new : List ℕ) (x : Ran) → Told p at old new x → length new ≡ length old → x .len ≤ length new
+left-within p at old new x t e = omega (arith, t .wrote .place, t .wrote .short)

@@ -33,7 +33,7 @@ use Rattle.writing.specs.Wrote.{Wrote}
 use Rattle.writing.proofs.Places.{retold}
 use Rattle.script.specs.declared.State.{State}
 use Rattle.script.specs.declared.Stepped.{Stepped}
-use Rattle.script.specs.Script.{noneHeld, start, added, usedUp, holding, Answered, afterDelivery, afterIn, places, popText, afterPop, byKind, stepOf, Says}
+use Rattle.script.specs.Script.{noneHeld, start, added, usedUp, holding, afterDelivery, afterIn, places, popText, afterPop, byKind, stepOf, Says}
 
 -- ---- what is held
 
@@ -118,12 +118,6 @@ called-short true k l t = port-short (keyMade k) (hasKey k (abs t .protocol)) k 
 pub popped-short : (t : Table) (k : Key) (l : List ℕ) (p : Popped) → p ≡ Calls.nextOf t k l → p .len ≤ length l
 unfolding Calls.nextOf called
 popped-short t k l p e = subst (λ (n : ℕ). n ≤ length l) (sym (ap (λ (x : Popped). x .len) e)) (called-short (wfb t) k l t)
-
-pub pop-room : (t : Table) (k : Key) (p : Popped) (lent out : List ℕ) (at : ℕ) → p ≡ Calls.nextOf t k places → length lent ≡ 64 → at + 800 ≤ length out
-    → (p .len ≤ 64) × (p .len ≤ length lent) × (at + 800 ≤ length out)
-pop-room t k p lent out at e n h =
-    let m : p .len ≤ 64 = popped-short t k places p e in
-    (m, omega (arith, n), h)
 
 module _ (s : State) (key : Key) (p : Popped) (lent old new : List ℕ) (at k : ℕ) (e : p ≡ Calls.nextOf (s .table) key places) (f : lent ≡ nextLent (s .table) key places) where
   as-popped : Wrote 800 old new at k (popText p lent) → Says (afterPop s key) old new at (record { state = record { table = p .table; held = s .held }; next = k })

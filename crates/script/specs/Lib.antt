@@ -1,2 +1,3 @@
 pub mod Script
 pub mod Input
+pub mod Plain

@@ -8,7 +8,6 @@ use lib.ListN.{set, take, replicate}
 use Rattle.packet.specs.declared.Record.{Record}
 use Rattle.packet.specs.declared.Key.{Key}
 use Rattle.model.specs.State as model
-use Rattle.table.specs.declared.Table.{Table}
 use Rattle.table.specs.Table.{repr}
 use Rattle.calls.specs.declared.Batch.{Batch}
 use Rattle.calls.specs.declared.Delivered.{Delivered}

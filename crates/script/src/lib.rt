@@ -6,7 +6,7 @@ use reading::Kind;
 use table::Table;
 ghost use mathlib.Core.Path.{_≡_};
 ghost use Prim.Native.Nat.{_+_, _≤_, _<_};
-ghost use lib.ListN.{length, take, drop};
+ghost use lib.ListN.{length, drop};
 ghost use Rattle.script.specs.Script as Script;
 ghost use Rattle.script.specs.Input as Input;
 
@@ -51,7 +51,7 @@ pub fn start() -> State
     State { table, held }
 }
 
-// One more record for the delivery. "more than seven held records make the delivery too long": past eight only the count grows, to 9.
+// One more record for the delivery. "more than seven held records make the delivery too long": past eight the count is 9, and no record is kept.
 fn added(b: Batch, r: Record) -> Batch
     ensures { λ c. ⌜ c ≡ Script.added r b ⌝ }
 {
@@ -94,8 +94,8 @@ fn deliver(s: State, time: u64, address: u32, r: Record, out: &mut [u8], at: usi
     let b = s.held;
     let d = receive::accept(t, time, address, added(b, r));
     let table = d.table;
-    let held = none_held();
-    let state = State { table, held };
+    let none = none_held();
+    let state = State { table, held: none };
     if d.code != 0 {
         let next = writing::write_no(out, at, d.code);
         return Stepped { state, next };
@@ -213,8 +213,7 @@ fn cut(n: usize) -> usize
 
 // Answers lines of the input from `from` on, in order, until the end or until another answer might not fit into the buffer.
 pub fn run(s: State, input: &[u8], from: usize, out: &mut [u8]) -> Ran
-    requires { ⌜ 800 ≤ length (now out) ⌝ }
-    ensures { λ x. ⌜ Input.Told s (Input.read (now (input .entry))) from (now (out .entry)) (now (out .exit)) x ⌝ }
+    ensures { λ x. ⌜ Input.Told (Input.partFrom (length (now (out .entry))) s (drop from (Input.read (now (input .entry))))) from (now (out .entry)) (now (out .exit)) x ⌝ }
 {
     let n = cut(input.len());
     let read = &input[..n];

@@ -8,8 +8,8 @@ use borrow.Author.Tests.{eq-eqb, ne-eqb, le-leb}
 use lib.Dec.{leb, ltb}
 use lib.ListN.{length}
 use Rattle.lists.specs.Find.{joined}
-use Rattle.lists.proofs.Tests.{or-left}
 use Rattle.lists.proofs.Find.{put-put}
+use Rattle.lists.proofs.Tests.{or-left}
 use Rattle.seq.specs.Num.{add}
 use Rattle.packet.specs.declared.Key.{Key}
 use Rattle.packet.specs.declared.OutEntry.{OutEntry}

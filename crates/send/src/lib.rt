@@ -91,11 +91,11 @@ fn wrote_off(t: Table, k: Key, n: Names) -> Done
     }
     let c = t.offs[at];
     let q = c.acks;
-    let x = take_names(q, n);
-    if x.ok == 0 {
+    let y = take_names(q, n);
+    if y.ok == 0 {
         return Done { table: t, code: 2 };
     }
-    let rest = x.queue;
+    let rest = y.queue;
     let mut d = c;
     d.acks = rest;
     let mut u = t;
@@ -267,29 +267,29 @@ fn send_off(t: Table, time: u64, k: Key, reliable: u32, h: Handles) -> Sent
     ensures { λ s. ⌜ s ≡ sentIn t time k reliable h ⌝ }
 {
     let at = calls::off_place(t, k.address);
-    let mut u = t;
-    u.latest = time;
+    let mut w = t;
+    w.latest = time;
     if t.offcount as usize <= at {
-        return refused(u, 13);
+        return refused(w, 13);
     }
     let c = t.offs[at];
     let v = channel::off_view(c);
     if reliable != 1 {
-        return send_loose(u, h.count, v);
+        return send_loose(w, h.count, v);
     }
-    let o = c.out;
-    if 32 < o.len + h.count {
-        return refused(u, 11);
+    let l = c.out;
+    if 32 < l.len + h.count {
+        return refused(w, 11);
     }
-    let all = add_sent(o, time, t.source, h);
+    let all = add_sent(l, time, t.source, h);
     let next = moved_on(t.source, h.count);
     let p = answer(v, t.offset, t.source);
     let mut d = c;
     d.out = all;
-    u.source = next;
-    u.offs[at] = d;
+    w.source = next;
+    w.offs[at] = d;
     Sent {
-        table: u,
+        table: w,
         code: 0,
         prepared: p,
     }

@@ -1,11 +1,12 @@
+-- What was written so far, and then the answers to the rest, are all answers. Assumes nothing.
 use native.Mathlib.Omega.{arith}
 use lib.Seq.{length-take-le}
 use borrow.Author.Needs.{needs}
-use Prim.Native.Nat.{_-_, _<_}
-use mathlib.Core.Path.{_≡_, sym}
+use Prim.Native.Nat.{_-_, _≤_, _<_}
+use mathlib.Core.Path.{_≡_, sym, _∙_}
 use lib.ListN.{length}
 use Rattle.script.specs.Input.{Left}
-use Rattle.script.proofs.Lines.{left-start, left-next, left-less}
+use Rattle.script.proofs.Lines.{left-start, left-next, left-less, left-within}
 use Rattle.driver.proofs.answer.Statement.{statement}
 use Rattle.driver.proofs.answer.Tie as tie
 
@@ -28,13 +29,21 @@ slice-aggregate-run : tie.Need-slice-aggregate-run Inv-loop μ-loop
 slice-aggregate-run c = c .before .before .loop .inv .0
 
 run-requires : tie.Need-run-requires Inv-loop μ-loop
-run-requires c κs = omega (arith, c .before .before .loop .inv .0)
+run-requires c κs = search needs
 
 array-share-prefix-out : tie.Need-array-share-prefix-out Inv-loop μ-loop
-array-share-prefix-out c = c .before .run .ensures .within
+array-share-prefix-out c =
+    let w = c .before in
+    let a = w .before .before .before in
+    let n : 65536 ≡ length (w .run .last .1 .1 .1 .0) = search needs in
+    left-within _ _ _ _ _ (w .run .ensures) (sym n ∙ a .loop .inv .0)
 
 slice-aggregate-write-all : tie.Need-slice-aggregate-write-all Inv-loop μ-loop
-slice-aggregate-write-all c = sym (length-take-le _ _ (c .before .before .run .ensures .within))
+slice-aggregate-write-all c =
+    let w = c .before .before in
+    let a = w .before .before .before in
+    let n : 65536 ≡ length (w .run .last .1 .1 .1 .0) = search needs in
+    sym (length-take-le _ _ (left-within _ _ _ _ _ (w .run .ensures) (sym n ∙ a .loop .inv .0)))
 
 write-all-requires : tie.Need-write-all-requires Inv-loop μ-loop
 write-all-requires c κs = search needs
@@ -48,7 +57,8 @@ loop-less c =
     let i = w .before .before in
     let a = i .before in
     let z = a .before .before .before .before in
-    let h : a .loop .at < w .run .result .at = left-less (z .args .input .now) _ _ _ _ _ (z .pre) (i .loop-test .taken) (w .run .ensures) in
+    let b : 800 ≤ length (a .loop .out) = omega (arith, a .loop .inv .0) in
+    let h : a .loop .at < w .run .result .at = left-less (z .args .input .now) _ _ _ _ _ (z .pre) (i .loop-test .taken) b (w .run .ensures) in
     let l : a .loop .at < length (z .args .input .now) = i .loop-test .taken in
     omega arith
 

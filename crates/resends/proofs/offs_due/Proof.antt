@@ -1,6 +1,7 @@
 use Prim.Native.Nat.{_-_}
-use Rattle.resends.proofs.Channels.{OffsCounting, off-count-few, offs-count-end, offs-count-most, counting}
 use native.Mathlib.Omega.{arith}
+use Rattle.resends.proofs.Channels.{counted-start, form-at, counted-few, counted-turn}
+use Rattle.resends.proofs.Sides.{offKind, OffsCounting, offs-most, offs-counted, places}
 use Rattle.resends.proofs.offs_due.Statement.{statement}
 use Rattle.resends.proofs.offs_due.Tie as tie
 
@@ -11,36 +12,35 @@ abbrev μ-loop : tie.MeasureT-loop
 μ-loop n time timeout give-up l count₀ i₀ count i = n - i
 
 loop-holds : tie.Need-loop-holds Inv-loop μ-loop
-loop-holds c = search counting
+loop-holds c = counted-start offKind _ _ _ _ _ _ (c .pre)
 
 mul-c : tie.Need-mul-c Inv-loop μ-loop
-mul-c c = search counting
+mul-c c = search places
 
 array-copy-out-c : tie.Need-array-copy-out-c Inv-loop μ-loop
-array-copy-out-c c = search counting
+array-copy-out-c c = search places
 
 count-due-young-requires : tie.Need-count-due-young-requires Inv-loop μ-loop
-count-due-young-requires c κs = search counting
+count-due-young-requires c κs = form-at offKind _ _ _ (c .before .before .before .before .pre) _ _ (c .before .before .loop-test .taken)
 
 add-count : tie.Need-add-count Inv-loop μ-loop
 add-count c =
-    let i = c .before .before .before .before .loop .inv in
-    let m = off-count-few _ _ _ _ _ (c .before .before .before .before .before .pre) _ _ _ i _ (c .before .before .before .loop-test .taken) (c .count-due-young .ensures) in
-    let n = offs-count-most _ _ _ _ _ _ _ i in
+    let s = c .before .before .before .before .loop .inv in
+    let m = counted-few offKind _ _ _ _ _ _ (c .before .before .before .before .before .pre) _ _ _ _ s (c .before .before .before .loop-test .taken) (c .count-due-young .ensures) in
+    let n = offs-most _ _ _ _ _ _ _ s in
     omega arith
 
 add-i : tie.Need-add-i Inv-loop μ-loop
-add-i c = search counting
+add-i c = search places
 
 loop-less : tie.Need-loop-less Inv-loop μ-loop
-loop-less c = search counting
+loop-less c = search places
 
 loop-again : tie.Need-loop-again Inv-loop μ-loop
-loop-again c = search counting
+loop-again c = counted-turn offKind _ _ _ _ _ _ (c .before .before .before .before .before .pre) _ _ _ _ (c .before .before .before .before .loop .inv) (c .before .before .before .loop-test .taken) (c .count-due-young .ensures)
 
 returns : tie.Need-returns Inv-loop μ-loop
-returns c =
-    (offs-count-end _ _ _ _ _ _ _ (c .before .loop .inv) (c .loop-test .left), offs-count-most _ _ _ _ _ _ _ (c .before .loop .inv))
+returns c = (offs-counted _ _ _ _ _ _ _ (c .before .loop .inv) (c .loop-test .left), offs-most _ _ _ _ _ _ _ (c .before .loop .inv))
 
 pub offs-due-spec : {M : Type 1} → statement M
 offs-due-spec =

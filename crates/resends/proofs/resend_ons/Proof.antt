@@ -1,6 +1,6 @@
 use Prim.Native.Nat.{_-_}
-use Rattle.resends.proofs.Channels.{OnsSending, sending, ons-start, on-out-at, on-kept-form, on-rows-fit, ons-turn, ons-array, ons-lent}
-use borrow.Author.Needs.{needs}
+use Rattle.resends.proofs.Channels.{sent-form, sent-room, sent-turn}
+use Rattle.resends.proofs.Sides.{onKind, OnsSending, ons-start, ons-array, ons-lent, places}
 use Rattle.resends.proofs.resend_ons.Statement.{statement}
 use Rattle.resends.proofs.resend_ons.Tie as tie
 
@@ -14,49 +14,47 @@ loop-holds : tie.Need-loop-holds Inv-loop μ-loop
 loop-holds c = ons-start _ _ _ _ _ _ _ (c .before .pre .0) (c .before .pre .1)
 
 mul-c : tie.Need-mul-c Inv-loop μ-loop
-mul-c c = search sending
+mul-c c = search places
 
 array-copy-out-c : tie.Need-array-copy-out-c Inv-loop μ-loop
-array-copy-out-c c = search sending
+array-copy-out-c c = search places
 
-drop-given-up-requires : tie.Need-drop-given-up-requires Inv-loop μ-loop
-drop-given-up-requires c κs = on-out-at _ _ _ _ _ _ _ _ _ _ _ (c .before .before .before .before .before .pre .0) (c .before .before .before .loop .inv) _ (c .before .before .loop-test .taken)
-
-write-due-requires : tie.Need-write-due-requires Inv-loop μ-loop
-write-due-requires c κs =
-    let w = c .before .before .before .before .before .before .before .pre .0 in
-    let s = c .before .before .before .before .before .loop .inv in
-    let h = c .before .before .before .before .loop-test .taken in
-    let e = c .before .drop-given-up .ensures in
-    (on-kept-form _ _ _ _ _ _ _ _ _ _ _ w s _ h _ e, on-rows-fit _ _ _ _ _ _ _ _ _ _ _ w s _ h _ e)
-
-mark-due-requires : tie.Need-mark-due-requires Inv-loop μ-loop
-mark-due-requires c κs = on-kept-form _ _ _ _ _ _ _ _ _ _ _ (c .before .before .before .before .before .before .before .before .before .before .pre .0) (c .before .before .before .before .before .before .before .before .loop .inv) _ (c .before .before .before .before .before .before .before .loop-test .taken) _ (c .before .before .before .before .drop-given-up .ensures)
+resend-list-requires : tie.Need-resend-list-requires Inv-loop μ-loop
+resend-list-requires c κs =
+    let w = c .before .before .before .before .before .before .pre .0 in
+    let s = c .before .before .before .before .loop .inv in
+    let h = c .before .before .before .loop-test .taken in
+    (sent-form onKind _ _ _ _ _ _ w _ _ _ _ _ _ s _ h, sent-room onKind _ _ _ _ _ _ w _ _ _ _ _ _ s _ h)
 
 mul-r : tie.Need-mul-r Inv-loop μ-loop
-mul-r c = search sending
+mul-r c = search places
 
 array-set-from-r : tie.Need-array-set-from-r Inv-loop μ-loop
-array-set-from-r c = search sending
+array-set-from-r c = search places
 
 add-i : tie.Need-add-i Inv-loop μ-loop
-add-i c = search sending
+add-i c = search places
 
 loop-less : tie.Need-loop-less Inv-loop μ-loop
-loop-less c = search sending
+loop-less c = search places
 
 loop-again : tie.Need-loop-again Inv-loop μ-loop
 loop-again c =
-    let w = c .before .before .before .before .before .before .before .before .before .before .before .pre .0 in
-    let s = c .before .before .before .before .before .before .before .before .before .loop .inv in
-    let h = c .before .before .before .before .before .before .before .before .loop-test .taken in
-    ons-turn _ _ _ _ _ _ _ _ _ _ _ w s _ h _ (c .before .before .before .before .before .drop-given-up .ensures) _ _ _ (c .mark-due .ensures) (c .before .before .before .write-due .ensures)
+    let w = c .before .before .before .before .before .before .before .before .before .before .pre .0 in
+    let s = c .before .before .before .before .before .before .before .before .loop .inv in
+    let h = c .before .before .before .before .before .before .before .loop-test .taken in
+    let r = c .before .before .before .resend-list .ensures in
+    sent-turn onKind _ _ _ _ _ _ w _ _ _ _ _ _ s _ _ _ h (r .0) (r .1)
 
 same-length : tie.Need-same-length Inv-loop μ-loop
-same-length c = search needs
+same-length c = search places
 
 returns : tie.Need-returns Inv-loop μ-loop
-returns c = (ons-array _ _ _ _ _ _ _ _ _ _ _ (c .before .loop .inv) (c .loop-test .left), ons-lent _ _ _ _ _ _ _ _ _ _ _ (c .before .loop .inv) (c .loop-test .left))
+returns c =
+    let w = c .before .before .before .pre .0 in
+    let s = c .before .loop .inv in
+    let h = c .loop-test .left in
+    (ons-array _ _ _ _ _ _ _ _ _ _ _ w s h, ons-lent _ _ _ _ _ _ _ _ _ _ _ w s h)
 
 pub resend-ons-spec : {M : Type 1} → statement M
 resend-ons-spec =
@@ -67,9 +65,7 @@ resend-ons-spec =
     loop-holds
     mul-c
     array-copy-out-c
-    drop-given-up-requires
-    write-due-requires
-    mark-due-requires
+    resend-list-requires
     mul-r
     array-set-from-r
     add-i

@@ -1,21 +1,33 @@
+use mathlib.Core.Path.{_∙_}
+use Prim.Native.Nat.{_+_, _*_, _<_}
+use lib.ListN.{length}
+use native.Mathlib.Omega.{arith}
 use borrow.Author.Needs.{needs}
-use Rattle.resends.proofs.Door.{unformed-is, unformed-lent, offs-form, ons-form, late-is, late-lent, short-is, short-lent, offs-fit, ons-fit, sent-is, sent-lent}
+use Rattle.resends.proofs.Door.{unformed-is, unformed-lent, offs-form, ons-form, late-is, late-lent, short-is, short-lent, offs-size, ons-size, same-size, sent-is, sent-lent}
 use Rattle.resends.proofs.take_resends.Statement.{statement}
 use Rattle.resends.proofs.take_resends.Tie as tie
 
 well-formed-requires : tie.Need-well-formed-requires
 well-formed-requires c κs = search needs
 
+refused-requires : tie.Need-refused-requires
+refused-requires c κs = search needs
+
 returns : tie.Need-returns
 returns c =
-    let e = c .before .well-formed .ensures in
-    (unformed-is _ _ _ _ _ _ e (c .if1 .taken), unformed-lent _ _ _ _ _ _ e (c .if1 .taken))
+    let e = c .before .before .well-formed .ensures in
+    let h = c .before .if1 .taken in
+    (c .refused .ensures ∙ unformed-is _ _ _ _ _ _ e h, unformed-lent _ _ _ _ _ _ e h)
+
+refused-requires-2 : tie.Need-refused-requires-2
+refused-requires-2 c κs = search needs
 
 returns-2 : tie.Need-returns-2
 returns-2 c =
-    let e = c .before .before .before .well-formed .ensures in
-    let h = c .before .before .if1 .left in
-    (late-is _ _ _ _ _ _ e h (c .if2 .taken), late-lent _ _ _ _ _ _ e h (c .if2 .taken))
+    let e = c .before .before .before .before .well-formed .ensures in
+    let h = c .before .before .before .if1 .left in
+    let l = c .before .if2 .taken in
+    (c .refused2 .ensures ∙ late-is _ _ _ _ _ _ e h l, late-lent _ _ _ _ _ _ e h l)
 
 cast-offs-due : tie.Need-cast-offs-due
 cast-offs-due c = search needs
@@ -38,14 +50,25 @@ cast-if3 c = search needs
 mul-if3 : tie.Need-mul-if3
 mul-if3 c = search needs
 
+refused-requires-3 : tie.Need-refused-requires-3
+refused-requires-3 c κs = search needs
+
 returns-3 : tie.Need-returns-3
 returns-3 c =
-    let e = c .before .before .before .before .before .before .before .before .before .before .well-formed .ensures in
-    let h = c .before .before .before .before .before .before .before .before .before .if1 .left in
-    let n = c .before .before .before .before .before .before .before .if2 .left in
-    let p = c .before .before .before .offs-due .ensures .0 in
-    let q = c .before .ons-due .ensures .0 in
-    (short-is _ _ _ _ _ _ e h n _ _ p q (c .if3 .taken), short-lent _ _ _ _ _ _ e h n _ _ p q (c .if3 .taken))
+    let a = c .before .before .before .before .before .before .before .before .before .before .before .before .before .args in
+    let e = c .before .before .before .before .before .before .before .before .before .before .before .well-formed .ensures in
+    let h = c .before .before .before .before .before .before .before .before .before .before .if1 .left in
+    let n = c .before .before .before .before .before .before .before .before .if2 .left in
+    let p = c .before .before .before .before .offs-due .ensures .0 in
+    let q = c .before .before .ons-due .ensures .0 in
+    let s : length (a .lent .now) < 2 * (c .before .before .before .before .offs-due .result + c .before .before .ons-due .result) = omega (arith, c .before .if3 .taken) in
+    (c .refused3 .ensures ∙ short-is _ _ _ _ _ _ e h n _ _ p q s, short-lent _ _ _ _ _ _ e h n _ _ p q s)
+
+cast-after : tie.Need-cast-after
+cast-after c = search needs
+
+mul-after : tie.Need-mul-after
+mul-after c = search needs
 
 cast-resend-offs : tie.Need-cast-resend-offs
 cast-resend-offs c = search needs
@@ -56,18 +79,12 @@ resend-offs-requires c κs =
     let e = c .before .before .before .before .before .before .before .before .before .before .before .before .well-formed .ensures in
     let h = c .before .before .before .before .before .before .before .before .before .before .before .if1 .left in
     let p = c .before .before .before .before .before .offs-due .ensures .0 in
-    let q = c .before .before .before .ons-due .ensures .0 in
     let f = c .before .before .if3 .left in
-    (offs-form _ _ e h, offs-fit (a .t) _ _ _ _ _ p q (a .lent .now) f)
+    let o = offs-size (a .t) _ _ _ _ p in
+    (offs-form _ _ e h, omega arith)
 
 cast-resend-ons : tie.Need-cast-resend-ons
 cast-resend-ons c = search needs
-
-cast-resend-ons-2 : tie.Need-cast-resend-ons-2
-cast-resend-ons-2 c = search needs
-
-mul-resend-ons : tie.Need-mul-resend-ons
-mul-resend-ons c = search needs
 
 resend-ons-requires : tie.Need-resend-ons-requires
 resend-ons-requires c κs =
@@ -77,7 +94,10 @@ resend-ons-requires c κs =
     let p = c .before .before .before .before .before .before .before .before .before .before .offs-due .ensures .0 in
     let q = c .before .before .before .before .before .before .before .before .ons-due .ensures .0 in
     let f = c .before .before .before .before .before .before .before .if3 .left in
-    (ons-form _ _ e h, ons-fit (a .t) _ _ _ _ _ p q (a .lent .now) _ f (c .before .before .before .before .resend-offs .ensures .1))
+    let o = offs-size (a .t) _ _ _ _ p in
+    let r = ons-size (a .t) _ _ _ _ q in
+    let m = same-size _ _ (a .lent .now) _ (c .before .before .before .before .resend-offs .ensures .1) (omega arith) in
+    (ons-form _ _ e h, omega arith)
 
 same-length : tie.Need-same-length
 same-length c = search needs
@@ -99,7 +119,9 @@ take-resends-spec =
     tie.close
     (tie.spec
     well-formed-requires
+    refused-requires
     returns
+    refused-requires-2
     returns-2
     cast-offs-due
     offs-due-requires
@@ -108,12 +130,13 @@ take-resends-spec =
     add-rows
     cast-if3
     mul-if3
+    refused-requires-3
     returns-3
+    cast-after
+    mul-after
     cast-resend-offs
     resend-offs-requires
     cast-resend-ons
-    cast-resend-ons-2
-    mul-resend-ons
     resend-ons-requires
     same-length
     returns-4)

@@ -1,25 +1,26 @@
+-- One more record, or one too many. Assumes nothing.
 use borrow.Author.Needs.{needs}
-use Rattle.script.proofs.Steps.{held-more, held-over, held-one, held-none, held-used, held-start}
+use Rattle.script.proofs.Steps.{held-more, held-over}
 use Rattle.script.proofs.added.Statement.{statement}
 use Rattle.script.proofs.added.Tie as tie
 
 cast-r : tie.Need-cast-r
-cast-r c = search (held-more, held-over, needs)
+cast-r c = search needs
 
 mul-r : tie.Need-mul-r
-mul-r c = search (held-more, held-over, needs)
+mul-r c = search needs
 
 element-set-from-r : tie.Need-element-set-from-r
-element-set-from-r c = search (held-more, held-over, needs)
+element-set-from-r c = search needs
 
 add-c : tie.Need-add-c
-add-c c = search (held-more, held-over, needs)
+add-c c = search needs
 
 returns : tie.Need-returns
-returns c = search (held-more, held-over, needs)
+returns c = search held-more
 
 returns-2 : tie.Need-returns-2
-returns-2 c = search (held-more, held-over, needs)
+returns-2 c = search held-over
 
 pub added-spec : {M : Type 1} → statement M
 added-spec = tie.close (tie.spec cast-r mul-r element-set-from-r add-c returns returns-2)

@@ -1,3 +1,4 @@
+-- A refusal, or the channel of the last record. Assumes nothing.
 use Rattle.script.proofs.Steps.{in-no, in-ok}
 use borrow.Author.Needs.{needs}
 use Rattle.script.proofs.deliver.Statement.{statement}

@@ -1,13 +1,14 @@
+-- The batch with one more record. Assumes nothing.
 use borrow.Author.Needs.{needs}
-use Rattle.script.proofs.Steps.{held-more, held-over, held-one, held-none, held-used, held-start}
+use Rattle.script.proofs.Steps.{held-one}
 use Rattle.script.proofs.hold.Statement.{statement}
 use Rattle.script.proofs.hold.Tie as tie
 
 added-requires : tie.Need-added-requires
-added-requires c κs = search (held-one, needs)
+added-requires c κs = search needs
 
 returns : tie.Need-returns
-returns c = search (held-one, needs)
+returns c = search held-one
 
 pub hold-spec : {M : Type 1} → statement M
 hold-spec = tie.close (tie.spec added-requires returns)

@@ -1,3 +1,4 @@
+-- A refusal, no bundle, or one that has room in 64 places. Assumes nothing.
 use Prim.Native.Nat.{_≤_}
 use Rattle.script.specs.Script.{places}
 use Rattle.script.proofs.Steps.{popped-short, pop-no, pop-none, pop-some}

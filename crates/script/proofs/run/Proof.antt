@@ -1,5 +1,6 @@
+-- After each turn the answers so far, and then those to the rest, are all answers. Assumes nothing.
 use native.Mathlib.Omega.{arith}
-use Prim.Native.Nat.{_-_, _<_}
+use Prim.Native.Nat.{_-_, _≤_, _<_}
 use lib.ListN.{length}
 use Rattle.script.proofs.Lines.{Running, run-start, run-turn, turn-room, run-full, run-over, cut-within, read-part}
 use borrow.Author.Needs.{needs}
@@ -19,7 +20,7 @@ slice-aggregate-read : tie.Need-slice-aggregate-read Inv-loop μ-loop
 slice-aggregate-read c = cut-within (c .before .cut .result) (c .before .before .before .before .args .input .now) (c .before .cut .ensures)
 
 loop-holds : tie.Need-loop-holds Inv-loop μ-loop
-loop-holds c = run-start _ _ _ _ (c .before .before .before .before .pre)
+loop-holds c = run-start _ _ _ _
 
 sub-if2 : tie.Need-sub-if2 Inv-loop μ-loop
 sub-if2 c = c .before .before .before .loop .inv .room
@@ -32,12 +33,14 @@ returns c =
     let a = c .before .before .before .before in
     let f = a .before .before in
     let z = f .before .before .before in
-    run-full _ (z .args .input .now) _ _ _ _ _ (read-part (f .cut .result) (z .args .input .now) (f .cut .ensures)) (a .loop .inv) (c .if2 .taken)
+    let l : length (a .loop .out) - a .loop .r .len < 800 = omega (arith, c .if2 .taken) in
+    run-full _ (z .args .input .now) _ _ _ _ _ (read-part (f .cut .result) (z .args .input .now) (f .cut .ensures)) (a .loop .inv) l
 
 turn-requires : tie.Need-turn-requires Inv-loop μ-loop
 turn-requires c κs =
     let a = c .before .before .before .before .before in
-    turn-room _ _ _ _ _ _ (a .loop .inv) (c .before .before .before .if1 .taken) (c .before .if2 .left)
+    let l : 800 ≤ length (a .loop .out) - a .loop .r .len = omega (arith, c .before .if2 .left) in
+    turn-room _ _ _ _ _ _ (a .loop .inv) (c .before .before .before .if1 .taken) l
 
 loop-less : tie.Need-loop-less Inv-loop μ-loop
 loop-less c =
@@ -51,7 +54,8 @@ loop-again c =
     let w = c .before .before in
     let e = w .before .before in
     let a = e .before .before .before .before in
-    run-turn _ _ _ _ _ _ _ _ (a .loop .inv) (turn-room _ _ _ _ _ _ (a .loop .inv) (e .before .before .if1 .taken) (e .if2 .left) .1) (w .turn .ensures)
+    let l : 800 ≤ length (a .loop .out) - a .loop .r .len = omega (arith, e .if2 .left) in
+    run-turn _ _ _ _ _ _ _ _ (a .loop .inv) (turn-room _ _ _ _ _ _ (a .loop .inv) (e .before .before .if1 .taken) l .1) (w .turn .ensures)
 
 same-length-2 : tie.Need-same-length-2 Inv-loop μ-loop
 same-length-2 c = c .before .before .loop .inv .size

@@ -1,3 +1,4 @@
+-- The five kinds of lines. Assumes nothing.
 use Rattle.script.proofs.Steps.{step-in, step-pig, step-pop, step-bad, step-bad-in}
 use borrow.Author.Needs.{needs}
 use Rattle.script.proofs.step.Statement.{statement}

@@ -1,3 +1,4 @@
+-- A line with its line feed, or the last one without. Assumes nothing.
 use Prim.Native.Nat.{_≤_, _<_}
 use native.Mathlib.Omega.{arith}
 use lib.ListN.{length}
