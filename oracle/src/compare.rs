@@ -5,7 +5,7 @@ use std::cmp::Ordering;
 use crate::inputs::{Random, SPAN, edges, pairs, product, triples};
 use crate::library::{Call, EXPORTED, Function, Words, shown};
 use crate::original::packet::Packet;
-use crate::original::seq::Seq;
+use crate::original::seq::{Seq, SeqAlloc};
 
 /// What the library answers where an argument is no legal number: the top bit and refusal 2.
 const ILLEGAL: u32 = 0x8000_0002;
@@ -22,6 +22,13 @@ fn one(a: u32, f: impl Fn(Seq) -> u32) -> u32 {
 
 fn two(a: u32, b: u32, f: impl Fn(Seq, Seq) -> u32) -> u32 {
     one(a, |a| one(b, |b| f(a, b)))
+}
+
+/// What is next after a call: the number that an `alloc` of none answers.
+fn next_after(next: Seq, call: impl Fn(&mut SeqAlloc)) -> u32 {
+    let mut source = SeqAlloc::new(next);
+    call(&mut source);
+    source.alloc(0).get()
 }
 
 /// The original's answer to each exported function, in the order of `EXPORTED`.
@@ -41,10 +48,13 @@ const ORIGINAL: [Call; EXPORTED.len()] = [
         packet.update_prefix(w[0]);
         packet.read_prefix()
     },
+    |w| one(w[0], |a| SeqAlloc::new(a).alloc(w[1]).get()),
+    |w| one(w[0], |a| next_after(a, |s| _ = s.alloc(w[1]))),
+    |w| two(w[0], w[1], |a, b| next_after(a, |s| s.observe(b))),
 ];
 
 /// Functions that are wrong on purpose: the pairs must tell each from the original's.
-const WRONG: [(usize, &str, Call); 6] = [
+const WRONG: [(usize, &str, Call); 8] = [
     (0, "Less at a distance of 2^27", |w| {
         if w[0] ^ w[1] == 1 << 27 {
             2
@@ -75,6 +85,15 @@ const WRONG: [(usize, &str, Call); 6] = [
     (4, "a sum that stops at the last u32", |w| {
         ORIGINAL[4]([w[0].saturating_add(w[1]), 0, w[2]])
     }),
+    (6, "what is next not wrapped", |w| {
+        one(w[0], |a| a.get().wrapping_add(w[1]))
+    }),
+    (7, "observe moves to the number itself", |w| {
+        two(w[0], w[1], |a, b| match b.wrapping_cmp(a) {
+            Ordering::Greater => b.get(),
+            _ => a.get(),
+        })
+    }),
 ];
 
 #[derive(Default)]
@@ -88,7 +107,11 @@ struct Count {
 fn hold(f: &Function, theirs: Call, inputs: impl Iterator<Item = Words>) -> Count {
     let mut count = Count::default();
     for words in inputs {
-        let (ours, theirs) = ((f.call)(words), theirs(words));
+        let theirs = theirs(words);
+        if theirs == ILLEGAL && !f.refuses {
+            continue;
+        }
+        let ours = (f.call)(words);
         count.inputs += 1;
         count.illegal += u64::from(f.takes == 2 && theirs == ILLEGAL);
         if ours != theirs {
@@ -163,7 +186,10 @@ pub fn vectors() {
         "# `packet.rs` in theorzr/wg-toolkit-rs fc2195d864 alone: the library has no part in it. A line is a call of an exported"
     );
     println!(
-        "# function and its answer. An argument that is no legal number has no answer in the original: 0x80000002 stands for it."
+        "# function and its answer, or with `:next` what is next in the number source after it. An argument that is no legal number"
+    );
+    println!(
+        "# has no answer in the original: 0x80000002 stands for it, and the number source is not asked."
     );
     println!(
         "# For each function: all pairs of ten edge numbers (five with third words for the prefix), then 15 inputs of a seed."
@@ -189,7 +215,10 @@ pub fn vectors() {
             product(SUMMED.to_vec(), SUMMED.to_vec()).collect()
         };
         for words in edge.into_iter().chain((0..15).map(|_| random.words())) {
-            println!("{} = {:#010x}", shown(f, words), theirs(words));
+            let theirs = theirs(words);
+            if theirs != ILLEGAL || f.refuses {
+                println!("{} = {theirs:#010x}", shown(f, words));
+            }
         }
     }
 }
