@@ -32,11 +32,11 @@ from concurrent.futures import ThreadPoolExecutor
 sys.path.insert(0, os.path.dirname(os.path.abspath(__file__)))
 import make
 import model
+from given import runnable
 from model import Driver, cut, lines_of, view
 
 ADDED = (2, 3, 4, 10, 11, 12, 13)
 SCRIPTS = os.path.join(os.path.dirname(os.path.abspath(__file__)), "scripts")
-
 
 class Play:
     """A script put to the model, and what of it is put to the original: lines, and the answers it must give to them. An expected
@@ -438,8 +438,8 @@ def show(oracle, seed):
 
 def main():
     words = argparse.ArgumentParser(description=__doc__.split("\n")[0])
-    words.add_argument("--oracle", help="the program that oracle/build makes")
-    words.add_argument("--driver", help="a driver program, with its words")
+    words.add_argument("--oracle", type=runnable, help="the program that oracle/build makes")
+    words.add_argument("--driver", type=runnable, help="a driver program, with its words")
     words.add_argument("--scripts", type=int, default=1000)
     words.add_argument("--seed", type=int, default=1)
     words.add_argument("--one", type=int)

@@ -17,6 +17,7 @@ import sys
 HERE = os.path.dirname(os.path.abspath(__file__))
 sys.path.insert(0, HERE)
 from compare import run
+from given import runnable
 from model import Driver
 
 PAGE = os.path.join(HERE, "..", "docs", "DIFFERENCES.md")
@@ -89,7 +90,7 @@ def cases(text):
 
 def main():
     words = argparse.ArgumentParser(description=__doc__.split("\n")[0])
-    words.add_argument("--oracle", help="the program that oracle/build makes")
+    words.add_argument("--oracle", type=runnable, help="the program that oracle/build makes")
     given = words.parse_args()
     with open(PAGE) as file:
         found = cases(file.read())

@@ -11,6 +11,7 @@ import sys
 
 sys.path.insert(0, os.path.dirname(os.path.abspath(__file__)))
 from compare import run
+from given import runnable
 from model import INPUT, Driver
 
 
@@ -86,7 +87,7 @@ EDGES = {
 
 def main():
     words = argparse.ArgumentParser(description=__doc__.split("\n")[0])
-    words.add_argument("--driver", help="a driver program, with its words")
+    words.add_argument("--driver", type=runnable, help="a driver program, with its words")
     driver = shlex.split(words.parse_args().driver or "")
     failures = 0
     for name, (data, answers) in EDGES.items():

@@ -19,6 +19,7 @@ from collections import Counter
 sys.path.insert(0, os.path.dirname(os.path.abspath(__file__)))
 import compare
 import model
+from given import runnable
 from model import Record, Refused, Table
 
 ROOT = os.path.dirname(os.path.dirname(os.path.abspath(__file__)))
@@ -287,7 +288,7 @@ def history():
 
 def main():
     arguments = argparse.ArgumentParser(description=__doc__.split("\n")[0])
-    arguments.add_argument("--oracle", help="the original, as oracle/build makes it")
+    arguments.add_argument("--oracle", type=runnable, help="the original, as oracle/build makes it")
     arguments.add_argument("--store", action="store_true", help="make the file anew")
     given = arguments.parse_args()
     written, script, seen = history()

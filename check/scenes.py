@@ -72,6 +72,8 @@ import subprocess
 import sys
 
 HERE = os.path.dirname(os.path.abspath(__file__))
+sys.path.insert(0, HERE)
+from given import runnable
 LIMITS = {"out": 32, "acks": 64, "buffer": 32, "queue": 32, "groups": 4, "places": 32, "bundles": 16, "handles": 64}
 
 
@@ -443,7 +445,7 @@ def line_of(original, name, script, show, kind, last):
 
 def main():
     arguments = argparse.ArgumentParser(description=__doc__.split("\n")[0])
-    arguments.add_argument("--oracle", help="the original, as oracle/build makes it")
+    arguments.add_argument("--oracle", type=runnable, help="the original, as oracle/build makes it")
     arguments.add_argument("--store", action="store_true", help="make the files anew")
     given = arguments.parse_args()
     original = given.oracle and Original(given.oracle)

@@ -16,6 +16,7 @@ import types
 
 HERE = os.path.dirname(os.path.abspath(__file__))
 sys.path.insert(0, HERE)
+from given import runnable
 
 
 def read(name):
@@ -78,7 +79,7 @@ def caught_by_original(wrong, oracle, seed, data, right):
 
 def main():
     words = argparse.ArgumentParser(description=__doc__.split("\n")[0])
-    words.add_argument("--oracle", help="the program that oracle/build makes")
+    words.add_argument("--oracle", type=runnable, help="the program that oracle/build makes")
     words.add_argument("--scripts", type=int, default=800)
     words.add_argument("--list", action="store_true", help="prints where each was caught")
     given = words.parse_args()
