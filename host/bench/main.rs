@@ -1,6 +1,7 @@
 //! What a call costs: the proved library and the original on the same histories, in one run on one machine, both built for release.
 //!
 //!     bench [--rounds N]         by default 5,000 rounds, each of the calls that the history's line tells; medians of nine
+//!     bench --stack              how much stack each call takes at most, over the same histories
 //!
 //! Beside it: the well-formed test alone, and this machine's own cost of reading a table once and copying it twice, which no call that
 //! takes a table, tests it and puts it back can go below.
@@ -318,6 +319,76 @@ fn alone(t: &mut Table, own: &mut Own) -> Vec<(&'static str, f64, f64)> {
     ]
 }
 
+// ---- Stack
+
+/// How much stack is painted below a call, and so the most that can be seen.
+const PAINTED: usize = 1 << 20;
+const PAINT: u8 = 0xA5;
+
+/// A place of the caller's own frame; the stack grows down from there.
+#[inline(never)]
+fn here() -> *mut u8 {
+    let mut place = 0u8;
+    black_box(&mut place)
+}
+
+/// How much of the stack below `from` the call wrote to, which is painted first.
+fn depth(from: *mut u8, call: &mut dyn FnMut()) -> usize {
+    let below = |k: usize| from.wrapping_sub(k);
+    // SAFETY: this thread's stack has PAINTED bytes and more below `from`, and nothing lives there while no call is under way.
+    (512..PAINTED).for_each(|k| unsafe { below(k).write_volatile(PAINT) });
+    call();
+    (512..PAINTED).rev().find(|&k| unsafe { below(k).read_volatile() } != PAINT).unwrap_or(512)
+}
+
+fn kind(call: &Call) -> &'static str {
+    match call {
+        Call::Accept { records, .. } if records.len() == 8 => "accept of eight",
+        Call::Accept { .. } => "accept",
+        Call::NextBundle { .. } => "next_bundle",
+        Call::AcksWritten { .. } => "acks_written",
+        Call::Prepare { .. } => "prepare",
+        Call::AcceptOut { .. } => "accept_out",
+        Call::Channel(_) => "channel",
+        _ => unreachable!("no history here has it"),
+    }
+}
+
+/// The most that each kind of call took.
+fn stack() {
+    let mut most: Vec<(&str, usize)> = Vec::new();
+    let mut seen = |name, bytes| match most.iter_mut().find(|m| m.0 == name) {
+        Some(m) => m.1 = m.1.max(bytes),
+        None => most.push((name, bytes)),
+    };
+    let mut lent = [0; lib::RESENT_NUMBERS];
+    let from = here();
+    let mut t = lib::boxed(false);
+    for calls in [in_order(100), reordered(100), fragments(50), deliveries(20), filled()] {
+        t = lib::boxed(false);
+        for call in &calls {
+            let mut code = 0;
+            let bytes = depth(from, &mut || code = put(&mut t, call, &mut lent[..64]));
+            assert_eq!(code, 0, "{call:?}");
+            seen(kind(call), bytes);
+        }
+    }
+    let forwarded = Record { on: 1, reliable: 1, number: 1, haslast: 1, lastreliable: 1, ..Record::ZERO };
+    let off = Record { on: 0, ..forwarded };
+    for (address, record) in [(7, forwarded), (0, off)] {
+        seen("accept_out", depth(from, &mut || _ = black_box(lib::accept_out(&mut t, 1, address, &record))));
+    }
+    seen("take_resends", depth(from, &mut || _ = black_box(lib::take_resends(&mut t, 9, 1, u64::MAX, &mut lent))));
+    seen("holds", depth(from, &mut || _ = black_box(lib::holds(&t, 12_345))));
+    seen("last_accepted_prefix", depth(from, &mut || _ = black_box(lib::last_accepted_prefix(&t))));
+    seen("reset_prefix_offset", depth(from, &mut || _ = black_box(lib::reset_prefix_offset(&mut t))));
+    seen("transfer_prefix_offset", depth(from, &mut || _ = black_box(lib::transfer_prefix_offset(&mut t))));
+    seen("well_formed", depth(from, &mut || _ = black_box(lib::well_formed(&t))));
+    most.sort_by_key(|m| std::cmp::Reverse(m.1));
+    println!("bench: {}, the most bytes of stack that a call took", std::env::consts::ARCH);
+    most.iter().for_each(|(name, bytes)| println!("  {name:<24} {bytes:>8}"));
+}
+
 /// The table's words, read once.
 #[inline(never)]
 fn read(t: &Table) -> u64 {
@@ -330,11 +401,15 @@ fn main() -> ExitCode {
     let words: Vec<String> = std::env::args().skip(1).collect();
     let rounds = match words.as_slice() {
         [] => 5_000,
+        [flag] if flag == "--stack" => {
+            let deep = std::thread::Builder::new().stack_size(8 << 20).spawn(stack).expect("a thread");
+            return deep.join().map_or(ExitCode::FAILURE, |()| ExitCode::SUCCESS);
+        }
         [flag, n] if flag == "--rounds" && n.parse::<u32>().is_ok_and(|n| (8..=1_000_000).contains(&n)) => {
             n.parse().expect("a number")
         }
         _ => {
-            eprintln!("usage: bench [--rounds N], N from 8 to 1000000");
+            eprintln!("usage: bench [--rounds N, from 8 to 1000000] | --stack");
             return ExitCode::from(2);
         }
     };
