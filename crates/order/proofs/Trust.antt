@@ -8,7 +8,7 @@ use native.Mathlib.Omega.{arith}
 use lib.ListN.{length, getD}
 use Rattle.packet.specs.Data.{Range}
 use Rattle.order.specs.Sent.{Arr, pkt, received, copy, above, missing, Near, keep, firsts}
-use Rattle.order.proofs.Copies.{none≢some, copy-new, missing-gap}
+use Rattle.order.proofs.Copies.{none≢some, copy-new, missing-gap, gap-unique}
 use Rattle.order.proofs.Buffer.{firsts-none}
 use Rattle.order.proofs.Order.{Inv, invariant}
 
@@ -45,6 +45,11 @@ sent-length h = firsts-length (copy h) 0 (missing h) (λ q l u. missing-gap h .f
 
 pub sent-at : (h : List Arr) (i : ℕ) (d : Arr) {x : ℕ} → i < missing h → copy h i ≡ some x → getD (firsts (copy h) 0 (missing h)) i d ≡ record { place = i; handle = x }
 sent-at h i d {x} l e = let k : 0 + i ≡ i = omega arith in rw k at (firsts-at (copy h) 0 (missing h) i d {x = x} (λ q v u. missing-gap h .full q (omega arith)) l (rw k e))
+
+-- "When every packet sent so far has arrived, demand 3's missing packet is the next one to be sent": n packets were sent, at places 0 to
+-- n - 1; each of them arrived, and the next did not
+pub all-arrived : (h : List Arr) (n : ℕ) → ((q : ℕ) → q < n → copy h q ≡ none → ⊥) → copy h n ≡ none → missing h ≡ n
+all-arrived h n each rest = gap-unique (copy h) (missing h) n (missing-gap h) (record { full = each; open′ = rest })
 
 -- the buffer: places strictly increase, past the missing one and less than 2^27 from it
 abbrev pub Climbs : ℕ → ℕ → List Arr → Type 0
