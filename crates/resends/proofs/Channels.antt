@@ -4,7 +4,7 @@ use mathlib.Core.List.{List, _++_, map}
 use Prim.Native.Nat.{ℕ, _+_, _≤_, _<_}
 use native.Mathlib.Omega.{arith}
 use lib.ListN.{length, take, drop, getD, set, length-map}
-use Rattle.lists.specs.Find.{keepBy, joined}
+use Rattle.lists.specs.Find.{keepBy, joined, writtenAt}
 use Rattle.lists.proofs.Pad.{length-pad}
 use Rattle.lists.proofs.Find.{length-keep}
 use Rattle.packet.specs.declared.OutEntry.{OutEntry}
@@ -15,8 +15,8 @@ use Rattle.out_list.specs.declared.OutList.{OutList}
 use Rattle.out_list.specs.Out as out
 use Rattle.out_list.proofs.Form.{wf-le, abs-of, wf-of}
 use Rattle.resends.specs.declared.Listed.{Listed}
-use Rattle.resends.specs.Resends.{writtenAt, listRows, listSent, listed, InForm}
-use Rattle.resends.proofs.Lists.{flat-joined}
+use Rattle.resends.specs.Resends.{listRows, listSent, listed, InForm}
+use Rattle.resends.proofs.Rows.{flat-joined}
 use Rattle.resends.proofs.Loops.{Counting, counting-start, counting-step, Sending, sending-start, sending-read, sending-room, sending-step, sending-lent}
 
 -- ---- one out list
