@@ -1,4 +1,4 @@
--- Laws of loops that write an array or a lent list place by place. Any element type. Assumes nothing.
+-- Laws of arrays and lent lists that are written, by their parts and by loops place by place. Any element type. Assumes nothing.
 use mathlib.Core.Path.{_≡_, refl, sym, ap, _∙_}
 use mathlib.Core.List.{List, [], _∷_, _++_, map, append-nil, append-assoc, map-append}
 use Prim.Native.Nat.{ℕ, zero, suc, _+_, _-_, _≤_, _<_, zero-le}
@@ -255,7 +255,8 @@ module _ {A : Type 0} where
         done = rw up (cc (s .done, paste-suc d at w j x (omega arith) lw));
       }
 
-  pub writing-end : (d : List A) (at : ℕ) (w l : List A) (k : ℕ) → Writing d at w l k [] → (k ≡ at + length w) × (l ≡ take at d ++ w ++ drop (at + length w) d)
+  pub writing-end : (d : List A) (at : ℕ) (w l : List A) (k : ℕ) → Writing d at w l k [] → (k ≡ at + length w) × (l ≡ writtenAt at w d)
+  unfolding writtenAt
   writing-end d at w l k s =
       let e : k ≡ at + length w = omega arith in
       let j : k - at ≡ length w = omega arith in

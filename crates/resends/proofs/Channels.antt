@@ -1,9 +1,9 @@
 -- One out list, and the turns of the loops over channels of either kind. Assumes nothing.
 use mathlib.Core.Path.{_≡_, ap, sym, subst, _∙_}
-use mathlib.Core.List.{List, _++_, map}
+use mathlib.Core.List.{List, map}
 use Prim.Native.Nat.{ℕ, _+_, _≤_, _<_}
 use native.Mathlib.Omega.{arith}
-use lib.ListN.{length, take, drop, getD, set, length-map}
+use lib.ListN.{length, take, getD, set, length-map}
 use Rattle.lists.specs.Find.{keepBy, joined, writtenAt}
 use Rattle.lists.proofs.Pad.{length-pad}
 use Rattle.lists.proofs.Find.{length-keep}
@@ -61,8 +61,7 @@ module _ (o k : OutList) (t giveUp : ℕ) (w : out.Wf o) (e : k ≡ out.repr (ke
         let y = q ∙ ap (λ (es : List OutEntry). out.repr (map (mark t timeout) es)) kept-abs in
         λ j. record { out = y j; next = x j }
 
-    pub list-lent : (l l₁ : List ℕ) → l₁ ≡ take at l ++ out.dueRows a t timeout (out.abs k) ++ drop (at + length (out.dueRows a t timeout (out.abs k))) l → l₁ ≡ writtenAt at (flat (listRows a t timeout giveUp o)) l
-    unfolding writtenAt
+    pub list-lent : (l l₁ : List ℕ) → l₁ ≡ writtenAt at (out.dueRows a t timeout (out.abs k)) l → l₁ ≡ writtenAt at (flat (listRows a t timeout giveUp o)) l
     list-lent l l₁ q = q ∙ ap (λ (v : List ℕ). writtenAt at v l) kept-rows
 
 -- ---- a kind of channel: the value of an unused place, the out list, the address, the channel with another out list, and its form
