@@ -5,7 +5,6 @@ use mathlib.Core.Bool.{Bool, true, false, cond}
 use mathlib.Core.Option.{Option, none, some}
 use Prim.Native.Nat.{ℕ, _+_, _-_, _≤_, _<_}
 use native.Mathlib.Omega.{arith}
-use native.Mathlib.Decide.{decLt}
 use borrow.Author.Needs.{needs}
 use lib.ListN.{length, getD, set, take, drop, length-take, drop-of-length-le}
 use lib.Seq.{take-all}
@@ -15,7 +14,7 @@ use Rattle.lists.proofs.Pad.{getD-pad}
 use Rattle.lists.proofs.Find.{length-keep}
 use Rattle.lists.proofs.Positions.{drop-more, position-slot, position-none}
 use Rattle.lists.proofs.Looking.{keep-yes, keep-no}
-use Rattle.lists.proofs.Copies.{swap-pad, length-swap}
+use Rattle.lists.proofs.Copies.{swap-pad, length-swap, length-swap-le}
 use Rattle.seq.specs.declared.Order.{Order}
 use Rattle.seq.specs.declared.Order.the-variants.{Less, Equal, Greater}
 use Rattle.seq.specs.Num.{cmp}
@@ -49,15 +48,8 @@ swap-top q w = omega (arith, wf-len-le q w)
 
 pub ruleset swapping = (swap-none, swap-done, swap-low, swap-top, needs)
 
-length-at : (f : ℕ → Bool) (xs : List ℕ) → length (swapRemoveFirst 0 f xs) ≤ length xs
-length-at f xs = go (decLt (slotOf f xs) (length xs))
-  where
-    go : Dec (slotOf f xs < length xs) → length (swapRemoveFirst 0 f xs) ≤ length xs
-    go (yes p) = rw (position-slot f xs p) (omega (arith, length-swap 0 (slotOf f xs) xs p))
-    go (no p) = rw (position-none f xs (omega arith)) (omega arith)
-
 pub length-swapFirst : (number : ℕ) (xs : List ℕ) → length (swapRemoveFirst 0 (is number) xs) ≤ length xs
-length-swapFirst number xs = length-at (is number) xs
+length-swapFirst number xs = length-swap-le 0 (is number) xs
 
 -- ---- single acks: those left, on the queue as it is, end where all do
 

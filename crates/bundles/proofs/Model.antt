@@ -3,26 +3,25 @@ use mathlib.Core.Path.{_≡_, refl, sym, ap, _∙_}
 use mathlib.Core.Logic.{_↔_}
 use mathlib.Core.Bool.{Bool, true, false, not, _&&_, _||_, and-false}
 use mathlib.Core.List.{List, [], _∷_, _++_, map, append-assoc, map-append}
-use Prim.Native.Nat.{ℕ, zero, suc, _+_, _-_, _*_, _≤_, _<_, zero-le}
-use native.Mathlib.Nat.{le-of-suc-le-suc, not-suc-le-zero, zero-add}
+use Prim.Native.Nat.{ℕ, suc, _+_, _-_, _≤_, _<_}
 use native.Mathlib.Omega.{arith}
-use native.Mathlib.Numerals.{add-one}
 use borrow.Author.Tests.{le-leb, lt-leb, eq-eqb, ne-eqb, leb-true, eqb-true, not-true, not-false}
-use mir.Syntax.{w32, w64}
+use mir.Syntax.{w32}
 use mir.Val.{Fits}
 use lib.Dec.{leb, ltb, eqb}
-use lib.ListN.{length, take, drop, getD, set, length-take, length-drop, length-append, length-map, drop-of-length-le, replicate}
-use lib.Seq.{drop-cons, getD-take, length-take-le, take-append-seam, drop-append-seam, take-add}
+use lib.ListN.{length, take, drop, getD, set, length-take, length-drop, length-append, length-map, replicate}
+use lib.Seq.{getD-take, length-take-le, take-append-seam, drop-append-seam, take-add}
 use Rattle.lists.specs.Pad.{pad, allb}
-use Rattle.lists.specs.Find.{joined, has, written}
+use Rattle.lists.specs.Find.{joined, has, written, sum}
 use Rattle.lists.proofs.Pad.{length-pad, take-pad, set-pad, pad-of-tail, tail-of-pad, and-left, and-right}
 use Rattle.lists.proofs.Tests.{leb-same}
-use Rattle.lists.proofs.Joined.{joined-one, has-joined}
+use Rattle.lists.proofs.Joined.{joined-one, length-joined-front, has-joined}
+use Rattle.lists.proofs.Sums.{sum-pad, sum-lengths}
 use Rattle.lists.proofs.Looking.{Past, Within, past-step, within-start, within-step, within-end}
 use Rattle.lists.proofs.Copies.{pad-over, take-front, Copying, Carrying, Fronting, copying-start, copying-step, copying-end, carrying-start, carrying-end, fronting-start, fronting-end}
 use Rattle.model.specs.Rust.{isHandle, holdsBundle}
 use Rattle.bundles.specs.declared.Bundles.{Bundles}
-use Rattle.bundles.specs.Bundles.{splitBy, abs, repr, size, Wf, room, front, sum, isZero, sized, bundlesGood}
+use Rattle.bundles.specs.Bundles.{splitBy, abs, repr, size, Wf, room, front, isZero, sized, bundlesGood}
 
 -- ---- cutting and joining
 
@@ -53,18 +52,6 @@ splitBy-joined (b ∷ bs) r =
     let d : drop (length b) (b ++ joined bs ++ r) ≡ joined bs ++ r = ap (λ (l : List ℕ). drop (length b) l) e ∙ drop-append-seam b (joined bs ++ r) in
     let s : splitBy (map size bs) (drop (length b) (b ++ joined bs ++ r)) ≡ bs = ap (λ (l : List ℕ). splitBy (map size bs) l) d ∙ splitBy-joined bs r in
     λ i. t i ∷ s i
-
-pub sum-sizes : (bs : List (List ℕ)) → sum (map size bs) ≡ length (joined bs)
-unfolding joined sum
-sum-sizes [] = refl
-sum-sizes (b ∷ bs) = ap (λ (n : ℕ). length b + n) (sum-sizes bs) ∙ sym (length-append b (joined bs))
-
-pub sum-pad : (n : ℕ) (xs : List ℕ) → length xs ≤ n → sum (pad n 0 xs) ≡ sum xs
-unfolding pad sum
-sum-pad zero [] h = refl
-sum-pad zero (x ∷ xs) h = absurd (not-suc-le-zero h)
-sum-pad (suc n) [] h = zero-add (sum (pad n 0 [])) ∙ sum-pad n [] zero-le
-sum-pad (suc n) (x ∷ xs) h = ap (λ (k : ℕ). x + k) (sum-pad n xs (le-of-suc-le-suc h))
 
 -- ---- a well-formed value
 
@@ -201,17 +188,12 @@ unfolding joined
 front-taken h [] m p = refl
 front-taken h (x ∷ bs) m p = ap (λ (k : List ℕ). take (length x) k) p ∙ take-front 64 0 x (joined bs) m
 
-front-le : (bs : List (List ℕ)) → length (front bs) ≤ length (joined bs)
-unfolding joined
-front-le [] = zero-le
-front-le (x ∷ bs) = omega (arith, length-append x (joined bs))
-
 pub front-len : (b : Bundles) → Wf b → getD (b .lengths) 0 0 ≡ length (front (abs b))
 front-len b w = front-is (b .lengths) (abs b) (wf-lengths b w)
 
 pub write-start : (b : Bundles) (out : List ℕ) → Wf b → length (front (abs b)) ≤ length out → Fronting (b .handles) out 64 (getD (b .lengths) 0 0) out 0
 write-start b out w h =
-    fronting-start (b .handles) out 64 (getD (b .lengths) 0 0) (omega (arith, front-len b w, front-le (abs b), wf-small b w)) (wf-sixtyfour b w) (omega (arith, front-len b w))
+    fronting-start (b .handles) out 64 (getD (b .lengths) 0 0) (omega (arith, front-len b w, length-joined-front (abs b), wf-small b w)) (wf-sixtyfour b w) (omega (arith, front-len b w))
 
 pub write-done : (b : Bundles) (old out : List ℕ) (i : ℕ) → Wf b → Fronting (b .handles) old 64 (getD (b .lengths) 0 0) out i → getD (b .lengths) 0 0 ≤ i → out ≡ written (front (abs b)) old
 write-done b old out i w c h =
@@ -253,7 +235,7 @@ pub handles-same : (b : Bundles) → Wf b → b .handles ≡ pad 64 0 (take (b .
 handles-same b w = wf-handles b w ∙ ap (λ (l : List ℕ). pad 64 0 l) (sym (wf-taken b w))
 
 pub front-under : (b : Bundles) → Wf b → getD (b .lengths) 0 0 ≤ b .total
-front-under b w = omega (arith, front-len b w, front-le (abs b), wf-total b w)
+front-under b w = omega (arith, front-len b w, length-joined-front (abs b), wf-total b w)
 
 pub pop-none : (b : Bundles) → Wf b → b .len ≡ 0 → b ≡ repr (drop 1 (abs b))
 pop-none b w h = none (abs b) w (omega (arith, wf-len b w))
@@ -288,34 +270,6 @@ held-done b x i found w c h =
     within-end (isHandle x) (b .handles) 64 (b .total) i found c h ∙ ap (λ (l : List ℕ). has (isHandle x) l) (wf-taken b w) ∙ sym (has-joined (isHandle x) (abs b))
 
 -- ---- the test
-
--- the loop that adds up N numbers: what was added, and what is left to add
-pub record Summing (N : ℕ) (l : List ℕ) (s i : ℕ) : Type 0 where
-  pub below : i ≤ N
-  pub short : N ≤ 64
-  pub length-is : length l ≡ N
-  pub small : s ≤ i * 0xFFFF_FFFF
-  pub rest : s + sum (drop i l) ≡ sum l
-
-pub sum-start : (N : ℕ) (l : List ℕ) → N ≤ 64 → length l ≡ N → Summing N l 0 0
-sum-start N l k h = record { below = zero-le; short = k; length-is = h; small = zero-le; rest = zero-add (sum l) }
-
-pub sum-fits : (N : ℕ) (l : List ℕ) (s i : ℕ) → Summing N l s i → i < N → Fits w32 (getD l i 0) → Fits w64 (s + getD l i 0)
-sum-fits N l s i c h f = record { fits = omega (arith, c .small, c .short, f .fits) }
-
-pub sum-step : (N : ℕ) (l : List ℕ) (s i : ℕ) → Summing N l s i → i < N → Fits w32 (getD l i 0) → Summing N l (s + getD l i 0) (i + 1)
-unfolding sum
-sum-step N l s i c h f =
-    let d : drop i l ≡ getD l i 0 ∷ drop (suc i) l = drop-cons l i 0 (omega (arith, c .length-is)) in
-    let e : sum (drop i l) ≡ getD l i 0 + sum (drop (suc i) l) = ap sum d in
-    let k : sum (drop (i + 1) l) ≡ sum (drop (suc i) l) = ap (λ (m : ℕ). sum (drop m l)) (add-one i) in
-    record { below = omega arith; short = c .short; length-is = c .length-is; small = omega (arith, c .small, f .fits); rest = omega (arith, c .rest) }
-
-pub sum-done : (N : ℕ) (l : List ℕ) (s i : ℕ) → Summing N l s i → N ≤ i → s ≡ sum l
-unfolding sum
-sum-done N l s i c h =
-    let e : sum (drop i l) ≡ 0 = ap sum (drop-of-length-le l {i = i} (omega (arith, c .length-is))) in
-    omega (arith, c .rest)
 
 pub zero-step : (l : List ℕ) (N n i : ℕ) (good : Bool) → Past isZero l N n i good → i < N → Past isZero l N n (i + 1) (good && (ltb i n || eqb (getD l i 0) 0))
 zero-step l N n i good p h = past-step isZero 0 l N n i good p h
@@ -389,7 +343,7 @@ wf-good b w =
     let k : b .len ≡ length (map size (abs b)) = wf-len b w ∙ sym n in
     let z : allb isZero (drop (b .len) (b .lengths)) ≡ true = (λ i. allb isZero (drop (k i) (wf-lengths b w i))) ∙ tail-of-pad isZero 0 refl 16 (map size (abs b)) in
     let v : allb isZero (drop (b .total) (b .handles)) ≡ true = (λ i. allb isZero (drop (wf-total b w i) (wf-handles b w i))) ∙ tail-of-pad isZero 0 refl 64 (joined (abs b)) in
-    let s : sum (b .lengths) ≡ b .total = ap sum (wf-lengths b w) ∙ sum-pad 16 (map size (abs b)) (omega (arith, wf-few b w)) ∙ sum-sizes (abs b) ∙ sym (wf-total b w) in
+    let s : sum (b .lengths) ≡ b .total = ap sum (wf-lengths b w) ∙ sum-pad 16 (map size (abs b)) (omega (arith, wf-few b w)) ∙ sum-lengths (abs b) ∙ sym (wf-total b w) in
     sym (good-rest b (omega (arith, wf-len b w, wf-few b w)) true (b .total) true (wf-sixteen b w) (wf-sixtyfour b w) (total-le b w) (sym z) refl (sym s) refl (sym v))
 
 pub good-iff : (b : Bundles) → bundlesGood b ≡ true ↔ Wf b

@@ -6,7 +6,7 @@ use Prim.Native.Nat.{ℕ, suc, _+_}
 use lib.Dec.{leb, eqb}
 use lib.ListN.{length, take, drop, getD}
 use Rattle.lists.specs.Pad.{pad, allb}
-use Rattle.lists.specs.Find.{joined}
+use Rattle.lists.specs.Find.{joined, sum}
 use Rattle.bundles.specs.declared.Bundles.{Bundles}
 
 -- the list cut into lists of those lengths, one after the other
@@ -43,10 +43,6 @@ abbrev pub front : List (List ℕ) → List ℕ
 front bs = getD bs 0 []
 
 -- ---- the test of Wf
-
-unfoldable pub sum : List ℕ → ℕ
-sum [] = 0
-sum (n ∷ ns) = n + sum ns
 
 abbrev pub isZero : ℕ → Bool
 isZero n = eqb n 0

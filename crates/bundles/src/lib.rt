@@ -5,7 +5,7 @@ ghost use mathlib.Core.List.{[], _∷_, _++_};
 ghost use Prim.Native.Nat.{_≤_};
 ghost use lib.ListN.{length, take, drop};
 ghost use Rattle.lists.specs.Pad.{pad, allb};
-ghost use Rattle.lists.specs.Find.{has, written};
+ghost use Rattle.lists.specs.Find.{has, written, sum};
 ghost use Rattle.model.specs.Rust.{holdsBundle};
 ghost use Rattle.bundles.specs.Bundles as Spec;
 
@@ -200,7 +200,7 @@ fn handles_zero(h: [u32; 64], n: u32) -> bool
 
 // In a u64, so that no lengths are too large for their sum.
 fn sum_of(l: [u32; 16]) -> u64
-    ensures { λ r. ⌜ r ≡ Spec.sum l ⌝ }
+    ensures { λ r. ⌜ r ≡ sum l ⌝ }
 {
     let mut s: u64 = 0;
     let mut i: usize = 0;

@@ -1,20 +1,14 @@
 -- Room is judged on the whole state, and a call changes one channel: where the state kept the limits, they are kept exactly where the
 -- channel keeps them. Assumes nothing.
-use mathlib.Core.Path.{_≡_, refl, ap}
-use mathlib.Core.Bool.{Bool, true, false, _&&_, _||_, and-true}
-use mathlib.Core.List.{List, [], _∷_}
-use Prim.Native.Nat.{ℕ, suc, _≤_}
-use native.Mathlib.Omega.{arith}
+use mathlib.Core.Path.{_≡_, refl}
+use mathlib.Core.Bool.{true, _&&_, _||_, and-true}
 use lib.Dec.{leb}
 use lib.ListN.{length}
-use borrow.Author.Tests.{leb-true, le-leb}
 use Rattle.lists.specs.Pad.{allb}
-use Rattle.lists.specs.Find.{has, putBy}
 use Rattle.lists.proofs.Pad.{and-left, and-right}
-use Rattle.lists.proofs.Find.{allb-put, length-put-here, put-new}
+use Rattle.lists.proofs.Find.{allb-put, put-room}
 use Rattle.model.specs.State.{OffChannel, OnChannel, Protocol, isOff, isOn, hasOff, hasOn, putOff, putOn}
 use Rattle.model.specs.Room.{fitsOff, fitsOn, fits, offRoom, onRoom}
-use lib.ListN.{length-append}
 
 -- what `fits` says, part by part
 pub record Fits (s : Protocol) : Type 0 where
@@ -34,18 +28,6 @@ fits-parts s h =
       each-off = and-right (leb (length (s .offs)) 4 && leb (length (s .ons)) 8) (allb fitsOff (s .offs)) a;
       each-on = and-right (leb (length (s .offs)) 4 && leb (length (s .ons)) 8 && allb fitsOff (s .offs)) (allb fitsOn (s .ons)) h;
     }
-
--- one more, or as many as there were
-module _ {A : Type 0} where
-  pub put-room : (f : A → Bool) (e : A) (xs : List A) (n m : ℕ) → suc m ≡ n → leb (length xs) n ≡ true → (has f xs || leb (length xs) m) ≡ true → leb (length (putBy f e xs)) n ≡ true
-  put-room f e xs n m z h p = at (has f xs) refl p
-    where
-      at : (t : Bool) → has f xs ≡ t → (t || leb (length xs) m) ≡ true → leb (length (putBy f e xs)) n ≡ true
-      at true q r = rw (length-put-here f e xs q) h
-      at false q r =
-          let l : length xs ≤ m = leb-true (length xs) m r in
-          let k : length (putBy f e xs) ≤ n = omega (arith, ap length (put-new f e xs q), length-append xs (e ∷ [])) in
-          le-leb _ _ k
 
 pub fits-put-on : (s : Protocol) (c : OnChannel) → fits s ≡ true → (hasOn (c .address) (c .index) s || onRoom s) ≡ true → fits (putOn c s) ≡ fitsOn c
 unfolding fits

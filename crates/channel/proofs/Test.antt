@@ -6,10 +6,10 @@ use mathlib.Core.Logic.{_↔_}
 use Prim.Native.Nat.{ℕ}
 use borrow.Author.Tests.{eqb-true}
 use lib.Dec.{eqb}
-use lib.ListN.{take}
 use Rattle.lists.specs.Pad.{allb}
 use Rattle.lists.specs.Find.{joined}
 use Rattle.lists.proofs.Pad.{and-left, and-right}
+use Rattle.lists.proofs.Positions.{take-none}
 use Rattle.seq.specs.Num.{legal}
 use Rattle.model.specs.State as model
 use Rattle.model.specs.Room.{fitsData, fitsOff, fitsOn}
@@ -268,9 +268,6 @@ pub goodOn-iff : (latest : ℕ) (c : OnChannel) → goodOn latest c ≡ true ↔
 goodOn-iff latest c = ((λ q. (on-good-wf latest c q, on-good-model latest c q)), λ p. on-wf-good latest c (p .0) (p .1))
 
 -- ---- a channel that passes its test and is idle is all zero, and the other way round
-
-take-none : {A : Type 0} (n : ℕ) (l : List A) → n ≡ 0 → take n l ≡ []
-take-none n l e = rw e
 
 pub idle-off-zero : (latest : ℕ) (c : OffChannel) → goodOff latest c ≡ true → idleOff c ≡ true → c ≡ reprOff (model.newOff 0)
 unfolding idleOff splitBy

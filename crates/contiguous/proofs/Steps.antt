@@ -10,8 +10,8 @@ use lib.ListN.{length, getD, set, take, drop, replicate, length-take, length-dro
 use lib.Seq.{drop-cons, getD-take, getD-drop, take-all, length-take-le}
 use borrow.Author.Tests.{lt-ltb, le-ltb, le-leb, lt-leb, eq-eqb, ne-eqb, not-true, not-false}
 use Rattle.lists.specs.Pad.{pad}
-use Rattle.lists.proofs.Pad.{pad-nil, set-pad, length-insertAt}
-use Rattle.lists.proofs.Copies.{insert-parts, Copying, copying-start, copying-step, copying-end}
+use Rattle.lists.proofs.Pad.{pad-nil, set-pad}
+use Rattle.lists.proofs.Copies.{length-parts, Copying, copying-start, copying-step, copying-end}
 use Rattle.seq.specs.declared.Order.{Order}
 use Rattle.seq.specs.declared.Order.the-variants.{Less, Equal, Greater}
 use Rattle.seq.specs.Num.{add, cmp, dist}
@@ -188,9 +188,6 @@ into : (b : Waiting) (p : Packet) (o : Place) → o ≡ spot b p → insertBuffe
 unfolding insertBuffered
 into b p o e = ap (λ (x : Place). insertedAt x p (Waits.abs b)) (sym e)
 
-length-inserted : (k : ℕ) (p : Packet) (l : List Packet) → length (insertedAt (At k) p l) ≡ suc (length l)
-length-inserted k p l = ap length (sym (insert-parts k p l)) ∙ length-insertAt k p l
-
 inserted-fits : (b : Waiting) (p : Packet) → length (insertBuffered p (Waits.abs b)) ≤ 32 → inserted b p ≡ record { fits = 1; buffer = Waits.repr (insertBuffered p (Waits.abs b)) }
 unfolding inserted
 inserted-fits b p h = rw (le-leb _ _ h)
@@ -209,7 +206,7 @@ insert-again b p o f e a =
 pub insert-full : (b : Waiting) (p : Packet) (o : Place) (k : ℕ) → Waits.Wf b → o ≡ spot b p → o ≡ At k → 32 ≤ b .len → _≡_ {A = Inserted} (record { fits = 0; buffer = b }) (inserted b p)
 insert-full b p o k f e a l =
     let s : insertBuffered p (Waits.abs b) ≡ insertedAt (At k) p (Waits.abs b) = into b p o e ∙ ap (λ (x : Place). insertedAt x p (Waits.abs b)) a in
-    let h : 32 < length (insertBuffered p (Waits.abs b)) = omega (arith, ap length s, length-inserted k p (Waits.abs b), WaitsForm.wf-len b f) in
+    let h : 32 < length (insertBuffered p (Waits.abs b)) = omega (arith, ap length s, length-parts k p (Waits.abs b), WaitsForm.wf-len b f) in
     sym (inserted-full b p h)
 
 pub insert-at-most : (b : Waiting) (p : Packet) (o : Place) (k : ℕ) → o ≡ spot b p → o ≡ At k → k ≤ length (Waits.abs b)
@@ -221,7 +218,7 @@ insert-at-room b f h = omega (arith, WaitsForm.wf-len b f)
 pub insert-room : (b r : Waiting) (p : Packet) (o : Place) (k : ℕ) → Waits.Wf b → o ≡ spot b p → o ≡ At k → b .len < 32 → r ≡ Waits.repr (insertedAt (At k) p (Waits.abs b)) → _≡_ {A = Inserted} (record { fits = 1; buffer = r }) (inserted b p)
 insert-room b r p o k f e a l q =
     let s : insertBuffered p (Waits.abs b) ≡ insertedAt (At k) p (Waits.abs b) = into b p o e ∙ ap (λ (x : Place). insertedAt x p (Waits.abs b)) a in
-    let h : length (insertBuffered p (Waits.abs b)) ≤ 32 = omega (arith, ap length s, length-inserted k p (Waits.abs b), WaitsForm.wf-len b f) in
+    let h : length (insertBuffered p (Waits.abs b)) ≤ 32 = omega (arith, ap length s, length-parts k p (Waits.abs b), WaitsForm.wf-len b f) in
     let t : r ≡ Waits.repr (insertBuffered p (Waits.abs b)) = q ∙ ap Waits.repr (sym s) in
     (λ i. record { fits = 1; buffer = t i }) ∙ sym (inserted-fits b p h)
 

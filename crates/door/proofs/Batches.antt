@@ -1,16 +1,16 @@
 -- A lent list as a batch: what the walk of `batch_of` needs, and that a delivery of the batch is a delivery of the list. Assumes nothing.
 use mathlib.Core.Path.{_≡_, refl, ap, sym, _∙_, subst}
 use mathlib.Core.Bool.{Bool, true, false, not, _&&_}
-use mathlib.Core.List.{List, [], _∷_, _++_}
-use Prim.Native.Nat.{ℕ, zero, suc, _+_, _≤_, _<_}
-use native.Mathlib.Nat.{not-suc-le-zero, le-of-suc-le-suc}
+use mathlib.Core.List.{List}
+use Prim.Native.Nat.{ℕ, suc, _+_, _≤_, _<_}
 use native.Mathlib.Numerals.{add-one}
 use native.Mathlib.Omega.{arith}
 use borrow.Author.Tests.{lt-leb, lt-ltb, leb-true, leb-false}
 use lib.Dec.{leb, lit<}
 use lib.ListN.{length, getD, take, set, replicate}
+use lib.Seq.{length-take-le, take-length, take-suc}
 use Rattle.lists.specs.Pad.{pad}
-use Rattle.lists.proofs.Pad.{length-pad, pad-nil, set-pad}
+use Rattle.lists.proofs.Pad.{length-pad, pad-nil, pad-take, pad-again, set-pad}
 use Rattle.packet.specs.declared.Record.{Record}
 use Rattle.packet.specs.Data.{noRecord}
 use Rattle.model.specs.Calls.{accept}
@@ -28,37 +28,6 @@ pub cases {ℓ} : {X : Type ℓ} (z : Bool) → (z ≡ true → X) → (z ≡ fa
 cases true a b = a refl
 cases false a b = b refl
 
--- ---- lists
-
-module _ {A : Type 0} where
-  take-next : (xs : List A) (i : ℕ) (d : A) → suc i ≤ length xs → take (suc i) xs ≡ take i xs ++ getD xs i d ∷ []
-  take-next [] i d h = absurd (not-suc-le-zero h)
-  take-next (x ∷ xs) zero d h = refl
-  take-next (x ∷ xs) (suc i) d h = ap (λ (r : List A). x ∷ r) (take-next xs i d (le-of-suc-le-suc h))
-
-  length-take-le : (xs : List A) (i : ℕ) → i ≤ length xs → length (take i xs) ≡ i
-  length-take-le xs zero h = refl
-  length-take-le [] (suc i) h = absurd (not-suc-le-zero h)
-  length-take-le (x ∷ xs) (suc i) h = ap suc (length-take-le xs i (le-of-suc-le-suc h))
-
-  take-all : (xs : List A) → take (length xs) xs ≡ xs
-  take-all [] = refl
-  take-all (x ∷ xs) = ap (λ (r : List A). x ∷ r) (take-all xs)
-
-  -- an array is full of the first n
-  pad-take : (n : ℕ) (z : A) (xs : List A) → pad n z (take n xs) ≡ pad n z xs
-  unfolding pad
-  pad-take zero z xs = refl
-  pad-take (suc n) z [] = refl
-  pad-take (suc n) z (x ∷ xs) = ap (λ (r : List A). x ∷ r) (pad-take n z xs)
-
-  -- a list that fits an array is the first of it
-  pad-again : (n : ℕ) (z y : A) (xs : List A) → length xs ≤ n → pad (length xs) z (pad n y xs) ≡ xs
-  unfolding pad
-  pad-again n z y [] h = refl
-  pad-again zero z y (x ∷ xs) h = absurd (not-suc-le-zero h)
-  pad-again (suc n) z y (x ∷ xs) h = ap (λ (r : List A). x ∷ r) (pad-again n z y xs (le-of-suc-le-suc h))
-
 -- ---- the batch with the first i records in it
 
 abbrev batch : ℕ → List Record → Batch
@@ -73,8 +42,8 @@ filled-none rs = ap (batch (Spec.countedOf (length rs))) (pad-nil 8 noRecord)
 
 put-next : (rs : List Record) (i : ℕ) (d : Record) → i < 8 → suc i ≤ length rs → set (pad 8 noRecord (take i rs)) i (getD rs i d) ≡ pad 8 noRecord (take (suc i) rs)
 put-next rs i d h l =
-    let e : length (take i rs) ≡ i = length-take-le rs i (omega arith) in
-    ap (λ (j : ℕ). set (pad 8 noRecord (take i rs)) j (getD rs i d)) (sym e) ∙ set-pad 8 noRecord (take i rs) (getD rs i d) (omega (arith, e)) ∙ ap (λ (r : List Record). pad 8 noRecord r) (sym (take-next rs i d l))
+    let e : length (take i rs) ≡ i = length-take-le i rs (omega arith) in
+    ap (λ (j : ℕ). set (pad 8 noRecord (take i rs)) j (getD rs i d)) (sym e) ∙ set-pad 8 noRecord (take i rs) (getD rs i d) (omega (arith, e)) ∙ ap (λ (r : List Record). pad 8 noRecord r) (sym (take-suc rs i d l))
 
 put-here : (b : Batch) (i : ℕ) (r : Record) → i < 8 → Spec.putAt b i r ≡ batch (b .count) (set (b .records) i r)
 put-here b i r h = rw (lt-ltb i 8 h)
@@ -92,7 +61,7 @@ taken-many : (n : ℕ) → leb n 8 ≡ false → Spec.takenOf n ≡ 8
 taken-many n e = rw e
 
 taken-fills : (b : Bool) (rs : List Record) → leb (length rs) 8 ≡ b → pad 8 noRecord (take (Spec.takenOf (length rs)) rs) ≡ pad 8 noRecord rs
-taken-fills true rs e = ap (λ (n : ℕ). pad 8 noRecord (take n rs)) (taken-few (length rs) e) ∙ ap (λ (l : List Record). pad 8 noRecord l) (take-all rs)
+taken-fills true rs e = ap (λ (n : ℕ). pad 8 noRecord (take n rs)) (taken-few (length rs) e) ∙ ap (λ (l : List Record). pad 8 noRecord l) (take-length rs)
 taken-fills false rs e = ap (λ (n : ℕ). pad 8 noRecord (take n rs)) (taken-many (length rs) e) ∙ pad-take 8 noRecord rs
 
 pub filled-all : (rs : List Record) (b : Batch) (i n : ℕ) → n ≡ Spec.takenOf (length rs) → i ≤ n → n ≤ i → b ≡ filled rs i → b ≡ Spec.batchOf rs

@@ -7,8 +7,9 @@ use native.Mathlib.Omega.{arith}
 use borrow.Author.Tests.{eq-eqb, ne-eqb, le-leb, lt-leb, lt-ltb, le-ltb, not-true, not-false}
 use borrow.Author.Needs.{needs}
 use lib.Dec.{eqb, leb, lit≤}
-use lib.ListN.{length, length-append, set, replicate}
+use lib.ListN.{length, set, replicate}
 use Rattle.lists.specs.Find.{joined}
+use Rattle.lists.proofs.Joined.{length-joined-head}
 use Rattle.packet.specs.declared.Record.{Record}
 use Rattle.packet.specs.declared.Key.{Key}
 use Rattle.packet.specs.declared.View.{View}
@@ -80,17 +81,13 @@ rows-small s t time timeout giveUp l e = subst (λ (x : Resent). x .code ≤ 13)
 
 -- ---- a bundle has at most 64 handles
 
-front-few : (b : List ℕ) (bs : List (List ℕ)) → length (joined (b ∷ bs)) ≤ 64 → length b ≤ 64
-unfolding joined
-front-few b bs h = omega (arith, length-append b (joined bs))
-
 handed-few : (made : Bool) (k : Key) (b : List ℕ) (bs : List (List ℕ)) (s : model.State) → length b ≤ 64 → lengthOf (port.handOut made k b bs s .answer) ≤ 64
 handed-few true k b bs s h = h
 handed-few false k b bs s h = lit≤ tt
 
 waiting-few : (bs : List (List ℕ)) (k : Key) (places : ℕ) (s : model.State) → length (joined bs) ≤ 64 → lengthOf (port.next bs k places s .answer) ≤ 64
 waiting-few [] k places s h = lit≤ tt
-waiting-few (b ∷ bs) k places s h = handed-few (leb (length b) places) k b bs s (front-few b bs h)
+waiting-few (b ∷ bs) k places s h = handed-few (leb (length b) places) k b bs s (omega (arith, length-joined-head b bs))
 
 keyed-few : (made here : Bool) (k : Key) (places : ℕ) (s : model.State) → length (joined (dataOf k (s .protocol) .bundles)) ≤ 64 → lengthOf (port.nextOf made here k places s .answer) ≤ 64
 keyed-few false here k places s h = lit≤ tt

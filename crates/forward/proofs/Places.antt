@@ -1,17 +1,16 @@
 -- A channel's place in any table that is the one form of a state within the limits: what the code takes from there, and the table with a
 -- channel of that key stored there. Assumes nothing.
 use mathlib.Core.Path.{_≡_, refl, ap, sym, _∙_}
-use mathlib.Core.Bool.{Bool, true, false, cond, _||_}
-use mathlib.Core.List.{List, map}
+use mathlib.Core.Bool.{Bool, true, false, cond}
+use mathlib.Core.List.{map}
 use Prim.Native.Nat.{ℕ, _+_, _≤_, _<_}
 use native.Mathlib.Omega.{arith}
-use borrow.Author.Tests.{ltb-true, ltb-false, le-leb, lt-leb}
-use lib.Dec.{ltb, leb}
+use borrow.Author.Tests.{ltb-true, ltb-false, le-ltb}
+use lib.Dec.{ltb}
 use lib.ListN.{length, getD}
-use Rattle.lists.specs.Find.{has, slotOf}
 use Rattle.lists.proofs.Pad.{length-pad}
 use Rattle.lists.proofs.Find.{find-absent}
-use Rattle.lists.proofs.Slot.{slot-le, slot-absent, absent-of-slot}
+use Rattle.lists.proofs.Slot.{slot-room, room-of}
 use Rattle.model.specs.State as model
 use Rattle.model.specs.Port.{hasPlace}
 use Rattle.kept.proofs.Room.{Fits}
@@ -27,16 +26,6 @@ use Rattle.calls.specs.Places.{placeOn, placeOff}
 
 -- ---- 4: the channel is there, or there is a place for one more
 
-room-of : {A : Type 0} (f : A → Bool) (l : List A) (m : ℕ) → slotOf f l ≤ m → (has f l || leb (length l) m) ≡ true
-room-of {A} f l m h = at (has f l) refl
-  where
-    at : (b : Bool) → has f l ≡ b → (b || leb (length l) m) ≡ true
-    at true e = refl
-    at false e = le-leb (length l) m (omega (arith, slot-absent f l e))
-
-full-of : {A : Type 0} (f : A → Bool) (l : List A) (m : ℕ) → length l ≤ m + 1 → m + 1 ≤ slotOf f l → (has f l || leb (length l) m) ≡ false
-full-of f l m h k = rw (absent-of-slot f l (omega arith)) (lt-leb (length l) m (omega (arith, slot-le f l)))
-
 pub on-room : (a i at : ℕ) (s : model.State) → at ≡ placeOn a i s → at < 8 → hasPlace true a i (s .protocol) ≡ true
 on-room a i at s e h = room-of (model.isOn a i) (s .protocol .ons) 7 (omega arith)
 
@@ -44,10 +33,10 @@ pub off-room : (a i at : ℕ) (s : model.State) → at ≡ placeOff a s → at <
 off-room a i at s e h = room-of (model.isOff a) (s .protocol .offs) 3 (omega arith)
 
 pub on-full : (a i at : ℕ) (s : model.State) → Fits (s .protocol) → at ≡ placeOn a i s → 8 ≤ at → hasPlace true a i (s .protocol) ≡ false
-on-full a i at s f e h = full-of (model.isOn a i) (s .protocol .ons) 7 (f .ons) (omega arith)
+on-full a i at s f e h = slot-room (model.isOn a i) (s .protocol .ons) 8 7 refl (f .ons) ∙ le-ltb (placeOn a i s) 8 (omega arith)
 
 pub off-full : (a i at : ℕ) (s : model.State) → Fits (s .protocol) → at ≡ placeOff a s → 4 ≤ at → hasPlace false a i (s .protocol) ≡ false
-off-full a i at s f e h = full-of (model.isOff a) (s .protocol .offs) 3 (f .offs) (omega arith)
+off-full a i at s f e h = slot-room (model.isOff a) (s .protocol .offs) 4 3 refl (f .offs) ∙ le-ltb (placeOff a s) 4 (omega arith)
 
 -- ---- what is taken from the place, and the table with a channel of that key stored there
 

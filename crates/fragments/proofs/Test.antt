@@ -12,17 +12,17 @@ use lib.Dec.{leb, ltb, eqb}
 use lib.ListN.{length, take, drop, getD, length-map, drop-of-length-le}
 use lib.Seq.{length-take-le, getD-take, drop-nil}
 use Rattle.lists.specs.Pad.{pad, allb}
-use Rattle.lists.specs.Find.{has}
+use Rattle.lists.specs.Find.{has, sum}
 use Rattle.lists.proofs.Pad.{pad-of-tail, tail-of-pad, and-left, and-right}
 use Rattle.lists.proofs.Tests.{allb-all, allb-getD}
 use Rattle.lists.proofs.Maps.{allb-map, map-kept}
 use Rattle.lists.proofs.Positions.{drop-here}
 use Rattle.lists.proofs.Looking.{past-turn, Both, both-hit, both-step}
+use Rattle.lists.proofs.Sums.{sum-pad}
 use Rattle.seq.specs.Num.{legal}
 use Rattle.model.specs.Group.{filled}
 use Rattle.model.specs.Wellformed.{distinct, sameFirst, groupGood}
-use Rattle.bundles.specs.Bundles.{sum, isZero}
-use Rattle.bundles.proofs.Model.{sum-pad}
+use Rattle.bundles.specs.Bundles.{isZero}
 use Rattle.fragments.specs.declared.Fragments.{Fragments}
 use Rattle.fragments.specs.declared.Groups.{Groups}
 use Rattle.fragments.specs.Groups.{markOf, handleOf, placeOf, places, absG, reprG, WfG, noGroup, zeroGroup, abs, Wf, placeGood, placesGood, sized, fragmentsGood, usedGood, spareGood, firstsDistinct, groupsGood}

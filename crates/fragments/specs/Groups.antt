@@ -8,7 +8,7 @@ use Prim.Native.Nat.{ℕ, zero, suc}
 use lib.Dec.{leb, eqb}
 use lib.ListN.{length, take, drop}
 use Rattle.lists.specs.Pad.{pad, allb}
-use Rattle.lists.specs.Find.{joined}
+use Rattle.lists.specs.Find.{joined, sum}
 use Rattle.seq.specs.Num.{legal, dist}
 use Rattle.packet.specs.declared.Packet.{Packet}
 use Rattle.model.specs.State.{Group, OffData}
@@ -18,7 +18,7 @@ use Rattle.model.specs.Room.{fitsGroup}
 use Rattle.model.specs.Wellformed.{distinct, sameFirst}
 use Rattle.bundles.specs.declared.Bundles.{Bundles}
 use Rattle.bundles.specs.Bundles as B
-use Rattle.bundles.specs.Bundles.{sum, isZero}
+use Rattle.bundles.specs.Bundles.{isZero}
 use Rattle.fragments.specs.declared.Fragments.{Fragments}
 use Rattle.fragments.specs.declared.Groups.{Groups}
 use Rattle.fragments.specs.declared.Added.{Added}

@@ -10,7 +10,7 @@ ghost use Prim.Native.Nat.{suc, _≤_, _<_};
 ghost use lib.Dec.{leb};
 ghost use lib.ListN.{length, take, drop, set};
 ghost use Rattle.lists.specs.Pad.{pad, removeAt, allb};
-ghost use Rattle.lists.specs.Find.{has, position};
+ghost use Rattle.lists.specs.Find.{has, position, sum};
 ghost use Rattle.model.specs.Group.{newGroup, store, stale, full, isBeyond, isFirst, inPlaces, span};
 ghost use Rattle.model.specs.Rust.{holdsGroup};
 ghost use Rattle.bundles.specs.Bundles as B;
@@ -418,7 +418,7 @@ fn places_good(ms: [u32; 32], hs: [u32; 32], n: u32) -> bool
 
 // In a u64, so that no marks are too large for their sum.
 fn sum_of(ms: [u32; 32]) -> u64
-    ensures { λ r. ⌜ r ≡ B.sum ms ⌝ }
+    ensures { λ r. ⌜ r ≡ sum ms ⌝ }
 {
     let mut s: u64 = 0;
     let mut i: usize = 0;

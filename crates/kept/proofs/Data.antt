@@ -7,13 +7,13 @@ use mathlib.Core.Option.{Option, none, some}
 use Prim.Native.Nat.{ℕ, _≤_}
 use native.Mathlib.Omega.{arith}
 use lib.Dec.{leb, eqb}
-use lib.ListN.{length, take, drop}
+use lib.ListN.{length}
 use borrow.Author.Tests.{leb-true, le-leb, eqb-true, eq-eqb}
 use Rattle.lists.specs.Pad.{allb}
 use Rattle.lists.specs.Find.{has, putBy, removeFirst, swapRemoveFirst}
 use Rattle.lists.proofs.Pad.{and-left, and-right}
 use Rattle.lists.proofs.Find.{allb-put, put-new, find-key}
-use Rattle.lists.proofs.Tests.{and-both, and-4, and-5, allb-tail, allb-none, allb-cons, allb-snoc, allb-weaken, allb-joins, allb-take, allb-drop, allb-remove, allb-keep, allb-find, allb-swap}
+use Rattle.lists.proofs.Tests.{and-both, and-4, and-5, eqb-turn, allb-tail, allb-none, allb-cons, allb-snoc, allb-weaken, allb-joins, allb-parts, allb-remove, allb-keep, allb-find, allb-swap}
 use Rattle.lists.proofs.Maps.{allb-map-so}
 use Rattle.seq.specs.Num.{legal, add, dist, cmp}
 use Rattle.packet.specs.declared.OutEntry.{OutEntry}
@@ -28,7 +28,7 @@ use Rattle.model.specs.Group.{span, isFirst, newGroup, full, inPlaces, store, s
 use Rattle.model.specs.Record.{cumulated, ackedOn, ackedOff, queued}
 use Rattle.model.specs.Rust.{cumulatedIn, insertedIf, forwarded, sentEntry, sentEntries, due, markIf, mark, kept, resentData}
 use Rattle.model.specs.Wellformed.{distinct, entryGood, groupGood, sameFirst, dataGood}
-use Rattle.kept.proofs.Distinct.{eqb-turn, eqb-alike, apart-none, apart-remove, apart-put}
+use Rattle.kept.proofs.Distinct.{eqb-alike, apart-none, apart-remove, apart-put}
 use Rattle.kept.proofs.Reorder.{add-legal}
 
 -- ---- the test as facts
@@ -230,7 +230,7 @@ forwarded-entry t n h = entry-test t (forwardedEntry n t) (record { number = h; 
 
 allb-at : (f : OutEntry → Bool) (k : Place) (e : OutEntry) (es : List OutEntry) → f e ≡ true → allb f es ≡ true → allb f (insertedAt k e es) ≡ true
 allb-at f Again e es h g = g
-allb-at f (At k) e es h g = allb-joins f (take k es) (e ∷ drop k es) (allb-take f k es g) (allb-cons f e (drop k es) h (allb-drop f k es g))
+allb-at f (At k) e es h g = allb-parts f k e es h g
 
 inserted-all : (t : ℕ) (b : Bool) (e : OutEntry) (es : List OutEntry) → entryGood t e ≡ true → allb (entryGood t) es ≡ true → allb (entryGood t) (insertedIf b e es) ≡ true
 unfolding insertOut

@@ -4,21 +4,14 @@ use mathlib.Core.Bool.{Bool, true, false, not, cond}
 use mathlib.Core.List.{List, [], _∷_, map}
 use Prim.Native.Nat.{ℕ}
 use lib.Dec.{eqb}
-use borrow.Author.Tests.{not-true, eqb-true, eqb-false, eq-eqb, ne-eqb}
+use borrow.Author.Tests.{not-true, eqb-true}
 use Rattle.lists.specs.Find.{has, putBy, removeFirst}
 use Rattle.lists.proofs.Pad.{and-left, and-right}
 use Rattle.lists.proofs.Tests.{and-both, has-remove, has-none-put, has-same}
 use Rattle.lists.proofs.Maps.{has-map}
 use Rattle.model.specs.Wellformed.{distinct}
 
--- two numbers, either way round; and equal numbers, beside a third
-pub eqb-turn : (a b : ℕ) → eqb a b ≡ eqb b a
-eqb-turn a b = at (eqb a b) refl
-  where
-    at : (t : Bool) → eqb a b ≡ t → eqb a b ≡ eqb b a
-    at true p = p ∙ sym (eq-eqb b a (sym (eqb-true a b p)))
-    at false p = p ∙ sym (ne-eqb b a (λ q. eqb-false a b p (sym q)))
-
+-- equal numbers, beside a third
 pub eqb-alike : (a b c : ℕ) → eqb b a ≡ true → eqb c a ≡ eqb c b
 eqb-alike a b c p = ap (λ (n : ℕ). eqb c n) (sym (eqb-true b a p))
 

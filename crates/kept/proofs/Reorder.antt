@@ -8,12 +8,12 @@ use native.Mathlib.Omega.{arith}
 use native.Mathlib.Nat.{add-suc, add-zero}
 use native.Mathlib.Decide.{decLt}
 use lib.Dec.{ltb, leb, eqb}
-use lib.ListN.{length, getD, take, drop, length-append, List·getD-append}
+use lib.ListN.{length, getD, length-append, List·getD-append}
 use lib.Seq.{getD-append-add, getD-append-seam, take-append-seam, drop-append-seam, append-snoc}
 use borrow.Author.Tests.{lt-ltb, le-ltb, le-leb, eq-eqb, ne-eqb, eqb-true, eqb-false, ltb-true, ltb-false, leb-true}
 use Rattle.lists.specs.Pad.{allb}
 use Rattle.lists.proofs.Pad.{and-left, and-right}
-use Rattle.lists.proofs.Tests.{and-both, allb-head, allb-tail, allb-cons, allb-snoc, allb-behind, allb-take, allb-drop, allb-joins}
+use Rattle.lists.proofs.Tests.{and-both, allb-head, allb-tail, allb-snoc, allb-behind, allb-parts}
 use Rattle.seq.specs.declared.Order.{Order}
 use Rattle.seq.specs.declared.Order.the-variants.{Less, Equal, Greater}
 use Rattle.seq.specs.Num.{legal, add, dist, sub, answer, cmp}
@@ -195,7 +195,7 @@ side-move e (p ∷ b) q bs he l gb gq r h = at (eqb (p .number) e) refl (λ z. s
 
 allb-inserted : (f : Packet → Bool) (k : Place) (p : Packet) (b : List Packet) → f p ≡ true → allb f b ≡ true → allb f (insertedAt k p b) ≡ true
 allb-inserted f Again p b h g = g
-allb-inserted f (At k) p b h g = allb-joins f (take k b) (p ∷ drop k b) (allb-take f k b g) (allb-cons f p (drop k b) h (allb-drop f k b g))
+allb-inserted f (At k) p b h g = allb-parts f k p b h g
 
 good-insert : (p : Packet) (b : List Packet) → packetGood p ≡ true → allb packetGood b ≡ true → allb packetGood (insertBuffered p b) ≡ true
 unfolding insertBuffered

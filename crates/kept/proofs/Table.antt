@@ -9,7 +9,7 @@ use borrow.Author.Tests.{leb-true, eqb-true, eq-eqb}
 use Rattle.lists.specs.Pad.{allb}
 use Rattle.lists.proofs.Pad.{and-left, and-right}
 use Rattle.lists.proofs.Find.{allb-put, length-put-le, find-key}
-use Rattle.lists.proofs.Tests.{never, and-both, and-5, allb-none, allb-weaken, allb-find}
+use Rattle.lists.proofs.Tests.{never, and-both, and-5, eqb-turn, allb-none, allb-weaken, allb-find}
 use Rattle.lists.proofs.Maps.{allb-map-so}
 use Rattle.seq.specs.Num.{legal}
 use Rattle.model.specs.State.{OffChannel, OnChannel, Protocol, State, new, newOff, newOn, isOff, isOn, hasOff, hasOn, offAt, onAt, putOff, putOn}
@@ -17,7 +17,7 @@ use Rattle.model.specs.Room.{fitsOff, fitsOn, fits}
 use Rattle.model.specs.Rust.{resentOff, resentOn, resentData, resent}
 use Rattle.model.specs.Port.{hasPlace}
 use Rattle.model.specs.Wellformed.{distinct, keyGood, onGood, offGood, sameOff, sameOn, good, wellFormed}
-use Rattle.kept.proofs.Distinct.{eqb-turn, eqb-alike, apart-none, apart-put, apart-map}
+use Rattle.kept.proofs.Distinct.{eqb-alike, apart-none, apart-put, apart-map}
 use Rattle.kept.proofs.Data.{DataGood, data-facts, data-test, data-new, data-later, resent-good}
 use Rattle.kept.proofs.Room.{fits-data-facts, fits-on-facts, Fits, fits-facts, fits-test, off-new-fits, on-new-fits, off-fits-with, on-fits-with, resent-fits}
 use Rattle.kept.proofs.Channel.{OnGood, on-facts, on-test, on-later, on-with, on-new}

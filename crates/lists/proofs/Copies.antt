@@ -1,14 +1,16 @@
--- Laws of loops that write an array or a lent list place by place. Any element type. Assumes nothing.
+-- Laws of arrays and lent lists that are written, by their parts and by loops place by place. Any element type. Assumes nothing.
 use mathlib.Core.Path.{_≡_, refl, sym, ap, _∙_}
 use mathlib.Core.List.{List, [], _∷_, _++_, map, append-nil, append-assoc, map-append}
 use Prim.Native.Nat.{ℕ, zero, suc, _+_, _-_, _≤_, _<_, zero-le}
 use native.Mathlib.Nat.{le-of-suc-le-suc, not-suc-le-zero, zero-add, suc-add}
 use native.Mathlib.Omega.{arith}
 use native.Mathlib.Numerals.{add-one}
-use lib.ListN.{length, getD, set, take, drop, replicate, length-map, List·getD-eq-default, List·getD-map, length-append, length-take, length-set, length-drop, length-replicate}
-use lib.Seq.{drop-cons, take-all, take-suc, getD-take, take-length, paste, paste-zero, paste-suc, length-take-le, take-append-seam, drop-append-add, drop-drop, getD-drop, take-suc-set}
+use mathlib.Core.Bool.{Bool}
+use mathlib.Core.Option.{Option, none, some}
+use lib.ListN.{length, getD, set, take, drop, replicate, length-map, List·getD-eq-default, List·getD-map, length-append, length-take, length-set, length-drop, length-replicate, take-append-drop}
+use lib.Seq.{drop-cons, take-all, take-at, take-suc, getD-take, take-length, paste, paste-zero, paste-suc, length-take-le, take-append-seam, drop-append-add, drop-drop, getD-drop, take-suc-set}
 use Rattle.lists.specs.Pad.{pad, insertAt}
-use Rattle.lists.specs.Find.{swapRemove}
+use Rattle.lists.specs.Find.{position, swapRemove, swapAt, swapRemoveFirst, writtenAt}
 use Rattle.lists.proofs.Pad.{getD-default, getD-pad, getD-padded, length-pad, mix, mix-end, mix-hi, mix-step, pad-nil, set-pad}
 
 module _ {A : Type 0} where
@@ -63,6 +65,16 @@ module _ {A : Type 0} where
       let v = getD xs (length xs - 1) z in
       omega (arith, length-take (length xs - 1) (set xs i v), length-set xs i v)
 
+  pub length-swap-le : (z : A) (f : A → Bool) (xs : List A) → length (swapRemoveFirst z f xs) ≤ length xs
+  unfolding swapRemove
+  length-swap-le z f xs = at (position f xs)
+    where
+      at : (o : Option ℕ) → length (swapAt z o xs) ≤ length xs
+      at none = omega arith
+      at (some i) =
+          let v = getD xs (length xs - 1) z in
+          omega (arith, length-take (length xs - 1) (set xs i v), length-set xs i v)
+
   -- an insertion is what stands before the place, the element, and what stands from the place on
   pub insert-parts : (i : ℕ) (e : A) (xs : List A) → insertAt i e xs ≡ take i xs ++ (e ∷ drop i xs)
   unfolding insertAt
@@ -74,6 +86,33 @@ module _ {A : Type 0} where
   length-parts zero e xs = refl
   length-parts (suc i) e [] = refl
   length-parts (suc i) e (x ∷ xs) = ap suc (length-parts i e xs)
+
+  -- ---- a list written into another: none written, v written after w, and as long as it was
+
+  pub written-none : (at : ℕ) (l : List A) → l ≡ writtenAt at [] l
+  unfolding writtenAt
+  written-none at l =
+      let e : at + 0 ≡ at = omega arith in
+      sym ((λ j. append-nil (take at l) j ++ drop (e j) l) ∙ take-append-drop at l)
+
+  pub written-after : (at : ℕ) (w v l : List A) → at ≤ length l → writtenAt (at + length w) v (writtenAt at w l) ≡ writtenAt at (w ++ v) l
+  unfolding writtenAt
+  written-after at w v l h =
+      let p = take at l ++ w in
+      let m = at + length w in
+      let d = drop m l in
+      let s : length p ≡ m = length-append (take at l) w ∙ ap (λ (n : ℕ). n + length w) (length-take-le at l h) in
+      let a : take m (p ++ d) ≡ p = take-at p d m s in
+      let e : m + length v ≡ at + length (w ++ v) = omega (arith, length-append w v) in
+      let b : drop (m + length v) (p ++ d) ≡ drop (at + length (w ++ v)) l =
+      ap (λ (n : ℕ). drop (n + length v) (p ++ d)) (sym s) ∙ drop-append-add p d (length v) ∙ drop-drop (length v) m l ∙ ap (λ (n : ℕ). drop n l) e in
+      (λ j. a j ++ v ++ b j) ∙ ap (λ (x : List A). x ++ drop (at + length (w ++ v)) l) (append-assoc (take at l) w v)
+
+  pub length-written : (at : ℕ) (w l : List A) → at + length w ≤ length l → length (writtenAt at w l) ≡ length l
+  unfolding writtenAt
+  length-written at w l h =
+      omega
+      (arith, length-append (take at l ++ w) (drop (at + length w) l), length-append (take at l) w, length-take-le at l (omega arith), length-drop (at + length w) l)
 
   -- ---- the loop that puts the elements of xs, n of them, after base in an array of N places: j are there already
 
@@ -216,7 +255,8 @@ module _ {A : Type 0} where
         done = rw up (cc (s .done, paste-suc d at w j x (omega arith) lw));
       }
 
-  pub writing-end : (d : List A) (at : ℕ) (w l : List A) (k : ℕ) → Writing d at w l k [] → (k ≡ at + length w) × (l ≡ take at d ++ w ++ drop (at + length w) d)
+  pub writing-end : (d : List A) (at : ℕ) (w l : List A) (k : ℕ) → Writing d at w l k [] → (k ≡ at + length w) × (l ≡ writtenAt at w d)
+  unfolding writtenAt
   writing-end d at w l k s =
       let e : k ≡ at + length w = omega arith in
       let j : k - at ≡ length w = omega arith in

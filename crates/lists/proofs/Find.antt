@@ -5,6 +5,8 @@ use mathlib.Core.List.{List, [], _∷_, _++_, map}
 use Prim.Native.Nat.{ℕ, zero, suc, _≤_, zero-le, suc-le-suc}
 use mathlib.Core.Bool.{Bool, true, false, _&&_, cond, _||_}
 use native.Mathlib.Omega.{arith}
+use borrow.Author.Tests.{leb-true, le-leb}
+use lib.Dec.{leb}
 use lib.ListN.{length, length-append}
 use Rattle.lists.specs.Pad.{removeAt, allb}
 use Rattle.lists.specs.Find.{has, findBy, putBy, removeFirst, keepBy}
@@ -195,6 +197,16 @@ module _ {A : Type 0} where
       at true ih = omega arith
       at false ih = omega arith
 
+  -- one less where one is there
+  pub length-remove-here : (g : A → Bool) (xs : List A) → has g xs ≡ true → suc (length (removeFirst g xs)) ≡ length xs
+  unfolding has removeFirst
+  length-remove-here g [] h = absurd (let n : _≡_ {A = ℕ} 0 1 = cc in omega arith)
+  length-remove-here g (x ∷ xs) h = at (g x) h (λ q. length-remove-here g xs q)
+    where
+      at : (t : Bool) → (t || has g xs) ≡ true → (has g xs ≡ true → suc (length (removeFirst g xs)) ≡ length xs) → suc (length (cond t xs (x ∷ removeFirst g xs))) ≡ suc (length xs)
+      at true q ih = refl
+      at false q ih = ap suc (ih q)
+
   pub length-keep : (g : A → Bool) (xs : List A) → length (keepBy g xs) ≤ length xs
   unfolding keepBy
   length-keep g [] = omega arith
@@ -211,6 +223,16 @@ module _ {A : Type 0} where
       at : (t : Bool) → has f xs ≡ t → length (putBy f e xs) ≤ suc n
       at true p = omega (arith, length-put-here f e xs p)
       at false p = omega (arith, ap length (put-new f e xs p), length-append xs (e ∷ []), k p)
+
+  pub put-room : (f : A → Bool) (e : A) (xs : List A) (n m : ℕ) → suc m ≡ n → leb (length xs) n ≡ true → (has f xs || leb (length xs) m) ≡ true → leb (length (putBy f e xs)) n ≡ true
+  put-room f e xs n m z h p = at (has f xs) refl p
+    where
+      at : (t : Bool) → has f xs ≡ t → (t || leb (length xs) m) ≡ true → leb (length (putBy f e xs)) n ≡ true
+      at true q r = rw (length-put-here f e xs q) h
+      at false q r =
+          let l : length xs ≤ m = leb-true (length xs) m r in
+          let k : length (putBy f e xs) ≤ n = omega (arith, ap length (put-new f e xs q), length-append xs (e ∷ [])) in
+          le-leb _ _ k
 
   pub length-removeAt-le : (i : ℕ) (xs : List A) → length (removeAt i xs) ≤ length xs
   unfolding removeAt

@@ -1,12 +1,13 @@
 -- Laws on lists joined one after the other. Any element type. Assumes nothing.
 use mathlib.Core.Path.{_≡_, refl, sym, ap, _∙_}
-use mathlib.Core.List.{List, [], _∷_, _++_, append-nil, append-assoc}
-use Prim.Native.Nat.{_≤_}
+use mathlib.Core.List.{List, [], _∷_, _++_, map, append-nil, append-assoc, map-append}
+use Prim.Native.Nat.{ℕ, zero, suc, _+_, _≤_, _<_, zero-le}
 use mathlib.Core.Bool.{Bool, _||_}
 use native.Mathlib.Omega.{arith}
-use lib.ListN.{length, length-append}
+use lib.ListN.{length, getD, take, drop, length-append}
 use Rattle.lists.specs.Find.{has, joined}
 use Rattle.lists.proofs.Tests.{has-append}
+use Rattle.lists.proofs.Positions.{take-more}
 
 module _ {A : Type 0} where
   pub joined-one : (ls : List (List A)) (l : List A) → joined (ls ++ l ∷ []) ≡ joined ls ++ l
@@ -23,8 +24,39 @@ module _ {A : Type 0} where
   unfolding joined
   length-joined-tail b bs = omega (arith, length-append b (joined bs))
 
+  pub length-joined-head : (b : List A) (bs : List (List A)) → length b ≤ length (joined (b ∷ bs))
+  unfolding joined
+  length-joined-head b bs = omega (arith, length-append b (joined bs))
+
+  -- the first list, and the others, where there may be none
+  pub length-joined-front : (bs : List (List A)) → length (getD bs 0 []) ≤ length (joined bs)
+  length-joined-front [] = zero-le
+  length-joined-front (b ∷ bs) = length-joined-head b bs
+
+  pub length-joined-rest : (bs : List (List A)) → length (joined (drop 1 bs)) ≤ length (joined bs)
+  length-joined-rest [] = omega arith
+  length-joined-rest (b ∷ bs) = length-joined-tail b bs
+
   -- what is in one of the lists is in all of them joined
   pub has-joined : (f : A → Bool) (ls : List (List A)) → has (λ (l : List A). has f l) ls ≡ has f (joined ls)
   unfolding has joined
   has-joined f [] = refl
   has-joined f (l ∷ ls) = ap (λ (r : Bool). has f l || r) (has-joined f ls) ∙ sym (has-append f l (joined ls))
+
+module _ {A B : Type 0} (g : A → List B) where
+  -- ---- what g makes of each element, joined: one element more, and a part of them
+
+  pub joined-more : (n : ℕ) (l : List A) (i : ℕ) (z : A) → i < n → n ≤ length l → joined (map g (take (i + 1) (take n l))) ≡ joined (map g (take i (take n l))) ++ g (getD l i z)
+  joined-more n l i z h k =
+      let xs = take i (take n l) in
+      let x = getD l i z in
+      ap (λ (r : List A). joined (map g r)) (take-more n l i z h k)
+      ∙ ap (λ (r : List (List B)). joined r) (map-append g xs (x ∷ []))
+      ∙ joined-one (map g xs) (g x)
+
+  pub joined-part : (i : ℕ) (xs : List A) → length (joined (map g (take i xs))) ≤ length (joined (map g xs))
+  unfolding joined
+  joined-part zero xs = omega arith
+  joined-part (suc i) [] = omega arith
+  joined-part (suc i) (x ∷ xs) =
+      omega (arith, joined-part i xs, length-append (g x) (joined (map g (take i xs))), length-append (g x) (joined (map g xs)))

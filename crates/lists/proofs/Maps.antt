@@ -1,10 +1,10 @@
 -- Laws on what a function makes of a list, element by element. Any element types. Assumes nothing.
 use mathlib.Core.Path.{_≡_, refl, sym, ap, _∙_}
 use mathlib.Core.List.{List, [], _∷_, _++_, map}
-use Prim.Native.Nat.{ℕ, zero, suc}
+use Prim.Native.Nat.{ℕ, zero, suc, _<_}
 use mathlib.Core.Bool.{Bool, true, _&&_, _||_}
 use native.Mathlib.Omega.{arith}
-use lib.ListN.{length, set, take, replicate}
+use lib.ListN.{length, getD, set, take, replicate}
 use Rattle.lists.specs.Pad.{pad, removeAt, allb}
 use Rattle.lists.specs.Find.{has}
 use Rattle.lists.proofs.Pad.{and-left, and-right}
@@ -24,6 +24,14 @@ module _ {A B : Type 0} where
   -- and a test of what h makes that follows from one of the elements
   pub allb-map-so : (f : A → Bool) (g : B → Bool) (h : A → B) → ((x : A) → f x ≡ true → g (h x) ≡ true) → (xs : List A) → allb f xs ≡ true → allb g (map h xs) ≡ true
   allb-map-so f g h w xs p = allb-map g h xs ∙ allb-weaken f (λ (x : A). g (h x)) w xs p
+
+  -- two functions that agree on each of the places
+  pub map-same : (f g : A → B) (z : A) (xs : List A) → ((i : ℕ) → i < length xs → f (getD xs i z) ≡ g (getD xs i z)) → map f xs ≡ map g xs
+  map-same f g z [] e = refl
+  map-same f g z (x ∷ xs) e =
+      let p = e 0 (omega arith) in
+      let q = map-same f g z xs (λ i h. e (suc i) (omega arith)) in
+      λ j. p j ∷ q j
 
   pub map-set : (f : A → B) (xs : List A) (i : ℕ) (x : A) → map f (set xs i x) ≡ set (map f xs) i (f x)
   map-set f [] i x = refl

@@ -67,6 +67,33 @@ module _ {A : Type 0} where
   take-pad zero z (x ∷ xs) h = absurd (not-suc-le-zero h)
   take-pad (suc n) z (x ∷ xs) h = ap (λ (r : List A). x ∷ r) (take-pad n z xs (le-of-suc-le-suc h))
 
+  -- where the list has n or more, the array is its first n, whatever stands after them
+  pub pad-short : (n : ℕ) (z : A) (xs : List A) → n ≤ length xs → pad n z xs ≡ take n xs
+  unfolding pad
+  pad-short zero z xs h = refl
+  pad-short (suc n) z [] h = absurd (not-suc-le-zero h)
+  pad-short (suc n) z (x ∷ xs) h = ap (λ (r : List A). x ∷ r) (pad-short n z xs (le-of-suc-le-suc h))
+
+  pub pad-front : (n : ℕ) (z : A) (xs ys : List A) → n ≤ length xs → pad n z xs ≡ pad n z (xs ++ ys)
+  unfolding pad
+  pad-front zero z xs ys h = refl
+  pad-front (suc n) z [] ys h = absurd (not-suc-le-zero h)
+  pad-front (suc n) z (x ∷ xs) ys h = ap (λ (r : List A). x ∷ r) (pad-front n z xs ys (le-of-suc-le-suc h))
+
+  -- an array is full of the first n
+  pub pad-take : (n : ℕ) (z : A) (xs : List A) → pad n z (take n xs) ≡ pad n z xs
+  unfolding pad
+  pad-take zero z xs = refl
+  pad-take (suc n) z [] = refl
+  pad-take (suc n) z (x ∷ xs) = ap (λ (r : List A). x ∷ r) (pad-take n z xs)
+
+  -- a list that fits an array is the first of it
+  pub pad-again : (n : ℕ) (z y : A) (xs : List A) → length xs ≤ n → pad (length xs) z (pad n y xs) ≡ xs
+  unfolding pad
+  pad-again n z y [] h = refl
+  pad-again zero z y (x ∷ xs) h = absurd (not-suc-le-zero h)
+  pad-again (suc n) z y (x ∷ xs) h = ap (λ (r : List A). x ∷ r) (pad-again n z y xs (le-of-suc-le-suc h))
+
   pub set-pad : (n : ℕ) (z : A) (xs : List A) (e : A) → length xs < n → set (pad n z xs) (length xs) e ≡ pad n z (xs ++ e ∷ [])
   unfolding pad
   set-pad zero z xs e h = absurd (not-suc-le-zero h)

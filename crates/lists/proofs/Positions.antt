@@ -39,6 +39,9 @@ module _ {A : Type 0} where
   take-more n l i z h k =
       ap (λ (m : ℕ). take m (take n l)) (add-one i) ∙ take-suc (take n l) i z (omega (arith, length-take n l)) ∙ rw (getD-take n l i z h)
 
+  pub take-none : (n : ℕ) (l : List A) → n ≡ 0 → take n l ≡ []
+  take-none n l e = rw e
+
   -- ---- where one stands, it is found, and put and removed there
 
   pub record Stands (f : A → Bool) (xs : List A) (i : ℕ) : Type 0 where

@@ -1,15 +1,15 @@
 -- Laws on the place of an element that is found by a test, or of a new one after the last: what `findBy` and `putBy` do to an array.
 -- Assumes nothing.
-use mathlib.Core.Path.{_≡_, refl, sym, ap}
+use mathlib.Core.Path.{_≡_, refl, sym, ap, _∙_}
 use mathlib.Core.List.{List, [], _∷_, map}
 use Prim.Native.Nat.{ℕ, zero, suc, _≤_, _<_}
-use mathlib.Core.Bool.{Bool, true, false, cond, _||_}
+use mathlib.Core.Bool.{Bool, true, false, cond, not, _||_}
 use native.Mathlib.Omega.{arith}
 use lib.ListN.{length, getD, set, take}
 use Rattle.lists.specs.Pad.{pad}
 use Rattle.lists.specs.Find.{has, findBy, putBy, slotOf}
-use borrow.Author.Tests.{ltb-true, ltb-false, lt-ltb, le-leb, lt-leb}
-use lib.Dec.{ltb, leb}
+use borrow.Author.Tests.{ltb-true, ltb-false, lt-ltb, le-leb, lt-leb, eq-eqb, ne-eqb}
+use lib.Dec.{ltb, leb, eqb}
 
 never : {P : Type 0} → _≡_ {A = ℕ} 0 1 → P
 never z = absurd (omega arith)
@@ -97,6 +97,21 @@ module _ {A : Type 0} where
       at : (t : Bool) → has f xs ≡ t → t || leb (length xs) m ≡ ltb (slotOf f xs) n
       at true q = sym (lt-ltb (slotOf f xs) n (omega (arith, slot-has f xs q)))
       at false q = more (ltb (slotOf f xs) n) q refl
+
+  pub room-of : (f : A → Bool) (xs : List A) (m : ℕ) → slotOf f xs ≤ m → (has f xs || leb (length xs) m) ≡ true
+  room-of f xs m h = at (has f xs) refl
+    where
+      at : (t : Bool) → has f xs ≡ t → (t || leb (length xs) m) ≡ true
+      at true q = refl
+      at false q = le-leb (length xs) m (omega (arith, slot-absent f xs q))
+
+  -- the place after the last is the answer exactly where there is none
+  pub own-place : (f : A → Bool) (xs : List A) (at : ℕ) → at ≡ slotOf f xs → eqb at (length xs) ≡ not (has f xs)
+  own-place f xs at e = go (has f xs) refl
+    where
+      go : (t : Bool) → has f xs ≡ t → eqb at (length xs) ≡ not t
+      go true q = ne-eqb at (length xs) (λ k. omega (arith, slot-has f xs q))
+      go false q = eq-eqb at (length xs) (e ∙ slot-absent f xs q)
 
 module _ {A B : Type 0} where
   -- the array of a list of A, each in its form g: reading at a place, and storing at the place of an element or after the last

@@ -11,8 +11,8 @@ use Rattle.lists.specs.Pad.{removeAt, allb}
 use mathlib.Core.Option.{Option, none, some}
 use Rattle.lists.specs.Find.{position, has, findBy, putBy, removeFirst, keepBy, swapRemove, swapAt, swapRemoveFirst}
 use mathlib.Core.Logic.{_⊎_, inl, inr}
-use borrow.Author.Tests.{leb-true, leb-false}
-use lib.Dec.{leb}
+use borrow.Author.Tests.{leb-true, leb-false, eqb-true, eqb-false, eq-eqb, ne-eqb}
+use lib.Dec.{leb, eqb}
 use Rattle.lists.proofs.Pad.{and-left, and-right}
 
 -- ---- truth values
@@ -54,6 +54,14 @@ leb-same a b c d f g = at (leb a b) (leb c d) refl refl
     at true false p q = let h = f (leb-true a b p) in let k = leb-false c d q in absurd (omega arith)
     at false true p q = let h = g (leb-true c d q) in let k = leb-false a b p in absurd (omega arith)
     at false false p q = p ∙ sym q
+
+-- two numbers, either way round
+pub eqb-turn : (a b : ℕ) → eqb a b ≡ eqb b a
+eqb-turn a b = at (eqb a b) refl
+  where
+    at : (t : Bool) → eqb a b ≡ t → eqb a b ≡ eqb b a
+    at true p = p ∙ sym (eq-eqb b a (sym (eqb-true a b p)))
+    at false p = p ∙ sym (ne-eqb b a (λ q. eqb-false a b p (sym q)))
 
 -- a truth value by its two cases
 pub either-way : (b : Bool) → (b ≡ true) ⊎ (b ≡ false)
@@ -144,6 +152,10 @@ module _ {A : Type 0} where
   allb-drop f (suc n) [] h = h
   allb-drop f (suc n) (x ∷ xs) h = allb-drop f n xs (allb-tail f x xs h)
 
+  -- with one more in between
+  pub allb-parts : (f : A → Bool) (n : ℕ) (x : A) (xs : List A) → f x ≡ true → allb f xs ≡ true → allb f (take n xs ++ x ∷ drop n xs) ≡ true
+  allb-parts f n x xs p h = allb-joins f (take n xs) (x ∷ drop n xs) (allb-take f n xs h) (allb-cons f x (drop n xs) p (allb-drop f n xs h))
+
   pub allb-getD : (f : A → Bool) (z : A) (xs : List A) (i : ℕ) → i < length xs → allb f xs ≡ true → f (getD xs i z) ≡ true
   allb-getD f z [] i l h = absurd (omega arith)
   allb-getD f z (x ∷ xs) zero l h = allb-head f x xs h
@@ -192,6 +204,15 @@ module _ {A : Type 0} where
       at : (t : Bool) → f (findBy g z xs) ≡ true → f (cond t x (findBy g z xs)) ≡ true
       at true ih = allb-head f x xs h
       at false ih = ih
+
+  pub allb-found : (f g : A → Bool) (z : A) (xs : List A) → allb f xs ≡ true → has g xs ≡ true → f (findBy g z xs) ≡ true
+  unfolding has findBy
+  allb-found f g z [] h k = never k
+  allb-found f g z (x ∷ xs) h k = at (g x) k (λ q. allb-found f g z xs (allb-tail f x xs h) q)
+    where
+      at : (t : Bool) → t || has g xs ≡ true → (has g xs ≡ true → f (findBy g z xs) ≡ true) → f (cond t x (findBy g z xs)) ≡ true
+      at true q ih = allb-head f x xs h
+      at false q ih = ih q
 
   pub allb-swap-at : (f : A → Bool) (z : A) (i : ℕ) (xs : List A) → allb f xs ≡ true → allb f (swapRemove z i xs) ≡ true
   unfolding swapRemove

@@ -1,8 +1,8 @@
--- Looking for an element by a test, taking one out, putting one in: for any element type.
+-- Looking for an element by a test, taking one out, putting one in: for any element type. Lists joined and numbers added up.
 use mathlib.Core.List.{List, [], _∷_, _++_}
 use mathlib.Core.Bool.{Bool, true, false, cond, _||_}
 use mathlib.Core.Option.{Option, none, some}
-use Prim.Native.Nat.{ℕ, zero, suc, _-_}
+use Prim.Native.Nat.{ℕ, zero, suc, _+_, _-_}
 use lib.ListN.{length, take, drop, getD, set}
 
 abbrev pub later : Option ℕ → Option ℕ
@@ -56,6 +56,10 @@ module _ {A : Type 0} where
   abbrev pub written : List A → List A → List A
   written xs lent = xs ++ drop (length xs) lent
 
+  -- a list with w in it from a place on, and the rest as it was
+  unfoldable pub writtenAt : ℕ → List A → List A → List A
+  writtenAt at w l = take at l ++ w ++ drop (at + length w) l
+
   -- lists one after the other
   unfoldable pub joined : List (List A) → List A
   joined [] = []
@@ -65,3 +69,8 @@ module _ {A : Type 0} where
   unfoldable pub slotOf : (A → Bool) → List A → ℕ
   slotOf f [] = 0
   slotOf f (x ∷ xs) = cond (f x) 0 (suc (slotOf f xs))
+
+-- the numbers of a list added up
+unfoldable pub sum : List ℕ → ℕ
+sum [] = 0
+sum (n ∷ ns) = n + sum ns

@@ -9,7 +9,7 @@ use lib.Dec.{ltb, leb, eqb}
 use lib.ListN.{length, getD, set, take, drop, length-take, length-map, length-append, length-set, drop-of-length-le}
 use lib.Seq.{take-all}
 use Rattle.lists.specs.Pad.{pad}
-use Rattle.lists.specs.Find.{has, keepBy}
+use Rattle.lists.specs.Find.{has, keepBy, writtenAt}
 use Rattle.lists.proofs.Find.{length-keep, keep-keep}
 use Rattle.lists.proofs.Positions.{drop-more}
 use Rattle.lists.proofs.Looking.{keep-yes, keep-no, Asking, asking-start, asking-hit, asking-step, asking-end}
@@ -233,7 +233,7 @@ module _ (o : OutList) (address t timeout : ℕ) (rows₀ : List ℕ) (at : ℕ)
   pub rows-pass : (ys : List ℕ) (m : ℕ) → b ≡ false → ys ≡ rows → m ≡ k → Rows o address t timeout rows₀ at ys m (i + 1)
   rows-pass ys m q e a = rw (e, a) (passed q)
 
-pub rows-end : (o : OutList) (address t timeout : ℕ) (rows₀ : List ℕ) (at : ℕ) (rows : List ℕ) (k i : ℕ) → Rows o address t timeout rows₀ at rows k i → o .len ≤ i → (k ≡ at + length (dueRows address t timeout (abs o))) × (rows ≡ take at rows₀ ++ dueRows address t timeout (abs o) ++ drop (at + length (dueRows address t timeout (abs o))) rows₀)
+pub rows-end : (o : OutList) (address t timeout : ℕ) (rows₀ : List ℕ) (at : ℕ) (rows : List ℕ) (k i : ℕ) → Rows o address t timeout rows₀ at rows k i → o .len ≤ i → (k ≡ at + length (dueRows address t timeout (abs o))) × (rows ≡ writtenAt at (dueRows address t timeout (abs o)) rows₀)
 unfolding keepBy flat
 rows-end o address t timeout rows₀ at rows k i s h =
     let none : rowsFrom address t timeout o i ≡ [] = rw (drop-of-length-le (abs o) {i = i} (omega (arith, length-take (o .len) (o .entries)))) in

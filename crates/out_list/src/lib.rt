@@ -10,7 +10,7 @@ ghost use Prim.Native.Nat.{_+_, _-_, _≤_, _<_};
 ghost use lib.Dec.{leb};
 ghost use lib.ListN.{length, take, drop};
 ghost use Rattle.lists.specs.Pad.{removeAt, allb};
-ghost use Rattle.lists.specs.Find.{slotOf, has, keepBy};
+ghost use Rattle.lists.specs.Find.{slotOf, has, keepBy, writtenAt};
 ghost use Rattle.seq.specs.Num.{cmp};
 ghost use Rattle.model.specs.Acks.{isGreater, hasNumber, ackSingle, ackSingles, ackCumulative, insertOut};
 ghost use Rattle.model.specs.Rust as Rust;
@@ -336,7 +336,7 @@ pub fn write_due(
 ) -> usize
     requires { ⌜ Wf o ⌝ }
     requires { ⌜ at + length (dueRows address time timeout (abs o)) ≤ length (now rows) ⌝ }
-    ensures { λ r. ⌜ (r ≡ at + length (dueRows address time timeout (abs o))) × (now (rows .exit) ≡ take at (now (rows .entry)) ++ dueRows address time timeout (abs o) ++ drop (at + length (dueRows address time timeout (abs o))) (now (rows .entry))) ⌝ }
+    ensures { λ r. ⌜ (r ≡ at + length (dueRows address time timeout (abs o))) × (now (rows .exit) ≡ writtenAt at (dueRows address time timeout (abs o)) (now (rows .entry))) ⌝ }
 {
     let n = o.len as usize;
     let mut k = at;

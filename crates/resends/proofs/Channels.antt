@@ -1,10 +1,10 @@
 -- One out list, and the turns of the loops over channels of either kind. Assumes nothing.
 use mathlib.Core.Path.{_≡_, ap, sym, subst, _∙_}
-use mathlib.Core.List.{List, _++_, map}
+use mathlib.Core.List.{List, map}
 use Prim.Native.Nat.{ℕ, _+_, _≤_, _<_}
 use native.Mathlib.Omega.{arith}
-use lib.ListN.{length, take, drop, getD, set, length-map}
-use Rattle.lists.specs.Find.{keepBy, joined}
+use lib.ListN.{length, take, getD, set, length-map}
+use Rattle.lists.specs.Find.{keepBy, joined, writtenAt}
 use Rattle.lists.proofs.Pad.{length-pad}
 use Rattle.lists.proofs.Find.{length-keep}
 use Rattle.packet.specs.declared.OutEntry.{OutEntry}
@@ -15,8 +15,8 @@ use Rattle.out_list.specs.declared.OutList.{OutList}
 use Rattle.out_list.specs.Out as out
 use Rattle.out_list.proofs.Form.{wf-le, abs-of, wf-of}
 use Rattle.resends.specs.declared.Listed.{Listed}
-use Rattle.resends.specs.Resends.{writtenAt, listRows, listSent, listed, InForm}
-use Rattle.resends.proofs.Lists.{flat-joined}
+use Rattle.resends.specs.Resends.{listRows, listSent, listed, InForm}
+use Rattle.resends.proofs.Rows.{flat-joined}
 use Rattle.resends.proofs.Loops.{Counting, counting-start, counting-step, Sending, sending-start, sending-read, sending-room, sending-step, sending-lent}
 
 -- ---- one out list
@@ -61,8 +61,7 @@ module _ (o k : OutList) (t giveUp : ℕ) (w : out.Wf o) (e : k ≡ out.repr (ke
         let y = q ∙ ap (λ (es : List OutEntry). out.repr (map (mark t timeout) es)) kept-abs in
         λ j. record { out = y j; next = x j }
 
-    pub list-lent : (l l₁ : List ℕ) → l₁ ≡ take at l ++ out.dueRows a t timeout (out.abs k) ++ drop (at + length (out.dueRows a t timeout (out.abs k))) l → l₁ ≡ writtenAt at (flat (listRows a t timeout giveUp o)) l
-    unfolding writtenAt
+    pub list-lent : (l l₁ : List ℕ) → l₁ ≡ writtenAt at (out.dueRows a t timeout (out.abs k)) l → l₁ ≡ writtenAt at (flat (listRows a t timeout giveUp o)) l
     list-lent l l₁ q = q ∙ ap (λ (v : List ℕ). writtenAt at v l) kept-rows
 
 -- ---- a kind of channel: the value of an unused place, the out list, the address, the channel with another out list, and its form

@@ -8,7 +8,9 @@ use borrow.Author.Tests.{le-leb, lt-leb, not-true, not-false}
 use lib.Dec.{leb}
 use lib.ListN.{length, take, drop, length-append, length-map}
 use Rattle.lists.specs.Pad.{pad}
+use Rattle.lists.specs.Find.{writtenAt}
 use Rattle.lists.proofs.Slot.{take-pad-map}
+use Rattle.lists.proofs.Copies.{written-after, length-written}
 use Rattle.packet.specs.declared.Resend.{Resend}
 use Rattle.model.specs.State as model
 use Rattle.model.specs.Refusals.{notWellFormed, timeBelow, listTooShort}
@@ -25,8 +27,8 @@ use Rattle.table.proofs.Places.{few-offs, few-ons, off-wf-at, on-wf-at}
 use Rattle.calls.specs.declared.Resent.{Resent}
 use Rattle.calls.specs.Calls.{Outcome, tableReply, called, resentOf, resendsOf, resendsLent}
 use Rattle.calls.proofs.Called.{called-refused, called-granted, on-limit, on-index, off-limit, off-index}
-use Rattle.resends.specs.Resends.{offRows, onRows, offsSent, onsSent, writtenAt, OffsWf, OnsWf}
-use Rattle.resends.proofs.Lists.{flat-append, length-flat, written-after, length-written}
+use Rattle.resends.specs.Resends.{offRows, onRows, offsSent, onsSent, OffsWf, OnsWf}
+use Rattle.resends.proofs.Rows.{flat-append, length-flat}
 
 -- a table with its time, or its time and its channels new
 abbrev pub atTime : ℕ → Table → Table
@@ -137,7 +139,7 @@ module _ (t : Table) (time timeout giveUp : ℕ) where
         let z : 0 + length (flat rows) ≡ length (flat rows) = omega arith in
         w
         ∙ (λ i. writtenAt (k i) (flat ons) (v i))
-        ∙ written-after 0 (flat offs) (flat ons) l (omega (arith, length-flat offs))
+        ∙ written-after 0 (flat offs) (flat ons) l (omega arith)
         ∙ ap (λ (u : List ℕ). writtenAt 0 u l) f
         ∙ ap (λ (n : ℕ). flat rows ++ drop n l) z
 

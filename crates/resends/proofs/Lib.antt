@@ -1,4 +1,4 @@
-pub mod Lists
+pub mod Rows
 pub mod Loops
 pub mod Channels
 pub mod Sides

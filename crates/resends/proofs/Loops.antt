@@ -7,11 +7,10 @@ use native.Mathlib.Omega.{arith}
 use lib.ListN.{length, take, getD, set, length-append, length-take}
 use lib.Seq.{take-all}
 use Rattle.lists.specs.Pad.{pad}
-use Rattle.lists.specs.Find.{joined}
+use Rattle.lists.specs.Find.{joined, writtenAt}
 use Rattle.lists.proofs.Pad.{length-pad, getD-default, mix-hi}
-use Rattle.lists.proofs.Copies.{Mapping, mapping-start, mapping-step, mapping-end}
-use Rattle.resends.specs.Resends.{writtenAt}
-use Rattle.resends.proofs.Lists.{joined-more, joined-part, written-none, written-after, length-written}
+use Rattle.lists.proofs.Joined.{joined-more, joined-part}
+use Rattle.lists.proofs.Copies.{written-none, written-after, length-written, Mapping, mapping-start, mapping-step, mapping-end}
 
 -- ---- `count` is how many the first i have; one channel has at most 32
 
@@ -97,7 +96,6 @@ module _ {A : Type 0} (f : A → A) (g : A → List ℕ) (N : ℕ) (z : A) (l : 
         let v = g (getD r i d) in
         let x : e ≡ f (getD r i z) = p ∙ ap (λ (c : A). f c) (getD-default r i d z (omega (arith, s .changed .size, s .changed .room))) in
         let more = rows-more d h in
-        let part : at + length w₀ ≤ length lent₀ = omega (arith, s .fits, joined-part g i (take n l)) in
         record {
           spare = s .spare;
           changed = mapping-step N z f (take n l) n r i e (s .changed) h x;
@@ -107,7 +105,7 @@ module _ {A : Type 0} (f : A → A) (g : A → List ℕ) (N : ℕ) (z : A) (l : 
           done =
               w
               ∙ (λ j. writtenAt (s .next j) v (s .done j))
-              ∙ written-after at w₀ v lent₀ part
+              ∙ written-after at w₀ v lent₀ (omega (arith, s .fits))
               ∙ ap (λ (u : List ℕ). writtenAt at u lent₀) (sym more);
         }
 

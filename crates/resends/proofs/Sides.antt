@@ -7,8 +7,9 @@ use borrow.Author.Needs.{needs}
 use lib.ListN.{length, take, getD, length-take}
 use lib.Seq.{getD-take}
 use Rattle.lists.specs.Pad.{pad}
-use Rattle.lists.specs.Find.{joined}
+use Rattle.lists.specs.Find.{joined, writtenAt}
 use Rattle.lists.proofs.Pad.{length-of-map}
+use Rattle.lists.proofs.Maps.{map-same}
 use Rattle.packet.specs.declared.Resend.{Resend}
 use Rattle.model.specs.State as model
 use Rattle.model.specs.Rust.{rowsOff, rowsOn, resentOff, resentOn}
@@ -17,8 +18,7 @@ use Rattle.channel.specs.declared.OffChannel.{OffChannel}
 use Rattle.channel.specs.declared.OnChannel.{OnChannel}
 use Rattle.channel.specs.Channel.{absOff, reprOff, absOn, reprOn, WfOff, WfOn}
 use Rattle.table.specs.Table.{zeroOff, zeroOn}
-use Rattle.resends.specs.Resends.{writtenAt, listRows, listSent, offRows, onRows, offsSent, onsSent, OffsWf, OnsWf}
-use Rattle.resends.proofs.Lists.{map-same}
+use Rattle.resends.specs.Resends.{listRows, listSent, offRows, onRows, offsSent, onsSent, OffsWf, OnsWf}
 use Rattle.resends.proofs.Loops.{Counting, counting-end, Sending, sending-array}
 use Rattle.resends.proofs.Channels.{Kind, rowsOf, numbersOf, sentOf, sent-start, sent-lent}
 

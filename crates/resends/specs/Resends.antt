@@ -1,8 +1,8 @@
 -- What the inner functions count, write and leave.
 use mathlib.Core.Path.{_≡_}
-use mathlib.Core.List.{List, _++_, map}
+use mathlib.Core.List.{List, map}
 use Prim.Native.Nat.{ℕ, _+_, _≤_, _<_}
-use lib.ListN.{length, take, drop, getD}
+use lib.ListN.{length, take, getD}
 use Rattle.lists.specs.Pad.{pad}
 use Rattle.lists.specs.Find.{keepBy, joined}
 use Rattle.packet.specs.declared.Resend.{Resend}
@@ -21,10 +21,6 @@ use Rattle.resends.specs.declared.Listed.{Listed}
 -- a refusal's answer, with the table that it leaves
 abbrev pub refusedBy : Table → ℕ → Resent
 refusedBy t n = record { table = t; code = n; rows = 0 }
-
--- a list with w in it from a place on, and the rest as it was
-unfoldable pub writtenAt : ℕ → List ℕ → List ℕ → List ℕ
-writtenAt at w l = take at l ++ w ++ drop (at + length w) l
 
 -- ---- one out list: its rows, and the list after it with the place after the rows
 

@@ -7,10 +7,11 @@ use table::Table;
 ghost use mathlib.Core.Path.{_≡_};
 ghost use Prim.Native.Nat.{_+_, _≤_};
 ghost use lib.ListN.{length};
+ghost use Rattle.lists.specs.Find.{writtenAt};
 ghost use Rattle.model.specs.Calls.{flat};
 ghost use Rattle.out_list.specs.Out as out;
 ghost use Rattle.calls.specs.Calls.{resendsOf, resendsLent};
-ghost use Rattle.resends.specs.Resends.{refusedBy, listRows, listed, writtenAt, offRows, onRows, offsSent, onsSent, OffsWf, OnsWf};
+ghost use Rattle.resends.specs.Resends.{refusedBy, listRows, listed, offRows, onRows, offsSent, onsSent, OffsWf, OnsWf};
 
 // A channel's out list once its rows are written, and the place after them.
 pub struct Listed {

@@ -9,6 +9,7 @@ use borrow.Author.Tests.{eq-eqb, ne-eqb, lt-ltb, le-ltb, ltb-true, ltb-false, eq
 use lib.Dec.{eqb, ltb}
 use lib.ListN.{length, take, drop, getD, length-append, length-drop, take-append-drop, drop-of-length-le}
 use lib.Seq.{length-take-le, take-at, drop-at, drop-drop, drop-cons, drop-length, take-all, take-length}
+use Rattle.lists.specs.Find.{writtenAt}
 use Rattle.writing.specs.Answers.{badLine}
 use Rattle.writing.specs.Wrote.{Wrote}
 use Rattle.writing.proofs.Places.{retold}
@@ -336,6 +337,7 @@ behind-twice a b n m k p e =
 
 pub run-turn : (s : State) (input : List ℕ) (from : ℕ) (old new next : List ℕ) (r x : Ran) → Running s input from old new r → r .len + 800 ≤ length new → Turned r input new next x
     → Running s input from old next x
+unfolding writtenAt
 run-turn s input from old new next r x v h t =
     let text = t .text in
     let front = take (r .len) new in
@@ -371,6 +373,7 @@ turn-room s input from old new r v h k = (h, omega (arith, v .room))
 told : (s : State) (all input : List ℕ) (from : ℕ) (old new : List ℕ) (r : Ran) → input ≡ read all → Running s input from old new r
     → partFrom (length old - r .len) (r .state) (drop (r .at) input) ≡ noPart (r .state)
     → Told (partFrom (length old) s (drop from (read all))) from old new r
+unfolding writtenAt
 told s all input from old new r e v z =
     let p = partFrom (length old) s (drop from input) in
     let q : p ≡ behind (take (r .len) new) (r .at - from) (noPart (r .state)) = v .part ∙ ap (λ (x : Part). behind (take (r .len) new) (r .at - from) x) z in

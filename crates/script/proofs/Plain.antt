@@ -2,14 +2,14 @@
 use mathlib.Core.Path.{_≡_, refl, sym, ap, _∙_}
 use mathlib.Core.Bool.{Bool, true, false, cond}
 use mathlib.Core.List.{List, [], _∷_, _++_}
-use Prim.Native.Nat.{ℕ, zero, suc, _+_, _≤_, _<_}
+use Prim.Native.Nat.{ℕ, _+_, _≤_, _<_}
 use native.Mathlib.Omega.{arith}
 use borrow.Author.Tests.{lt-ltb, le-ltb, lt-leb, ltb-true, ltb-false}
 use lib.Dec.{eqb, ltb, leb}
-use lib.ListN.{length, take, drop, set, length-append}
+use lib.ListN.{length, drop, set, length-append}
 use lib.Seq.{take-append-seam}
 use Rattle.lists.specs.Pad.{pad}
-use Rattle.lists.proofs.Pad.{length-pad, pad-nil, take-pad, set-pad}
+use Rattle.lists.proofs.Pad.{length-pad, pad-nil, pad-front, pad-again, set-pad}
 use Rattle.packet.specs.declared.Record.{Record}
 use Rattle.packet.specs.declared.Key.{Key}
 use Rattle.packet.specs.Data.{noRecord, keyMade}
@@ -46,12 +46,6 @@ none-is : noneHeld ≡ batchOf []
 unfolding noneHeld
 none-is = ap (λ (l : List Record). record { count = 0; records = l }) (pad-nil 8 noRecord)
 
-pad-over : (n : ℕ) (z : Record) (xs ys : List Record) → n ≤ length xs → pad n z xs ≡ pad n z (xs ++ ys)
-unfolding pad
-pad-over zero z xs ys h = refl
-pad-over (suc n) z [] ys h = absurd (omega arith)
-pad-over (suc n) z (x ∷ xs) ys h = ap (λ (l : List Record). x ∷ l) (pad-over n z xs ys (omega arith))
-
 few : (hs : List Record) → length hs < 9 → batchOf hs .count ≡ length hs
 few hs h = rw (lt-ltb (length hs) 9 h)
 
@@ -82,21 +76,14 @@ added-is hs r = more (ltb (length hs) 8) refl
     more false e =
         let h : 8 ≤ length hs = ltb-false (length hs) 8 e in
         let c : 9 ≡ batchOf (hs ++ r ∷ []) .count = sym (many (hs ++ r ∷ []) (omega (arith, n))) in
-        sym (held-over (batchOf hs) r (full hs h)) ∙ (λ i. record { count = c i; records = pad-over 8 noRecord hs (r ∷ []) h i })
+        sym (held-over (batchOf hs) r (full hs h)) ∙ (λ i. record { count = c i; records = pad-front 8 noRecord hs (r ∷ []) h i })
 
 -- ---- a delivery of what is held
-
-pad-take : (n : ℕ) (z : Record) (l : List Record) → n ≤ length l → pad n z l ≡ take n l
-unfolding pad
-pad-take zero z l h = refl
-pad-take (suc n) z [] h = absurd (omega arith)
-pad-take (suc n) z (x ∷ xs) h = ap (λ (q : List Record). x ∷ q) (pad-take n z xs (omega arith))
 
 recorded : (hs : List Record) → length hs < 9 → recordsOf (batchOf hs) ≡ hs
 recorded hs h =
     ap (λ (n : ℕ). pad n noRecord (pad 8 noRecord hs)) (few hs h)
-    ∙ pad-take (length hs) noRecord (pad 8 noRecord hs) (omega (arith, length-pad 8 noRecord hs))
-    ∙ take-pad 8 noRecord hs (omega arith)
+    ∙ pad-again 8 noRecord noRecord hs (omega arith)
 
 -- which records a delivery that is too long has makes no difference
 long-made : (rs : List Record) → 8 < length rs → deliveryMade rs ≡ false

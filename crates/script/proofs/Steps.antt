@@ -7,7 +7,7 @@ use native.Mathlib.Omega.{arith}
 use borrow.Author.Tests.{eq-eqb, ne-eqb, lt-ltb, le-ltb, leb-true}
 use lib.Dec.{leb}
 use lib.ListN.{length, set, take, replicate}
-use lib.Seq.{paste-zero}
+use Rattle.lists.proofs.Copies.{written-none}
 use Rattle.packet.specs.declared.Record.{Record}
 use Rattle.packet.specs.declared.Key.{Key}
 use Rattle.packet.specs.Data.{keyMade}
@@ -157,7 +157,7 @@ pub step-pig : (s u : State) (line : List ℕ) (l : Line) (old : List ℕ) (at :
     → Says (stepOf s line) old old at (record { state = u; next = at })
 step-pig s u line l old at e h q =
     as-read s line l old old at (record { state = u; next = at }) e Pig h
-    (record { state = q; wrote = record { place = omega arith; short = omega arith; list = paste-zero old at [] } })
+    (record { state = q; wrote = record { place = omega arith; short = omega arith; list = written-none at old } })
 
 pub step-bad : (s : State) (line : List ℕ) (l : Line) (old new : List ℕ) (at k : ℕ) → l ≡ lineOf line → l .kind ≡ Bad → Wrote 64 old new at k badLine
     → Says (stepOf s line) old new at (record { state = s; next = k })

@@ -5,6 +5,7 @@ use Prim.Native.Nat.{ℕ, _+_, _≤_, _<_}
 use native.Mathlib.Omega.{arith}
 use borrow.Author.Needs.{needs}
 use lib.ListN.{length, take, drop, getD, length-take, length-append, drop-of-length-le}
+use Rattle.lists.proofs.Pad.{pad-short}
 use Rattle.lists.proofs.Positions.{drop-more}
 use Rattle.seq.specs.Num.{add}
 use Rattle.packet.specs.declared.OutEntry.{OutEntry}
@@ -14,7 +15,6 @@ use Rattle.out_list.specs.Out as out
 use Rattle.out_list.proofs.Form.{wf-len, abs-of, wf-of, len-of}
 use Rattle.calls.specs.declared.Handles.{Handles}
 use Rattle.calls.specs.Calls.{handlesOf}
-use Rattle.send.proofs.Lists.{pad-short}
 
 pub length-sent : (t n : ℕ) (hs : List ℕ) → length (sentEntries t n hs) ≡ length hs
 unfolding sentEntries

@@ -1,4 +1,3 @@
-pub mod Lists
 pub mod Outside
 pub mod Written
 pub mod Added

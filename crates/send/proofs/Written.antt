@@ -10,7 +10,8 @@ use borrow.Author.Tests.{eq-eqb, ne-eqb, not-true, not-false}
 use lib.ListN.{length, take, getD}
 use Rattle.lists.specs.Pad.{pad}
 use Rattle.lists.specs.Find.{has, removeFirst}
-use Rattle.lists.proofs.Pad.{length-pad}
+use Rattle.lists.proofs.Pad.{length-pad, pad-short}
+use Rattle.lists.proofs.Find.{length-remove-here}
 use Rattle.packet.specs.declared.Key.{Key}
 use Rattle.packet.specs.Data.{isSet, keyIndex, keyMade}
 use Rattle.model.specs.State as model
@@ -35,7 +36,6 @@ use Rattle.calls.specs.Places.{placeOn, placeOff}
 use Rattle.calls.specs.Calls.{Outcome, tableReply, doneOf, namesOf, wroteAcks}
 use Rattle.calls.proofs.Called.{called-refused, called-granted, tested, key-tested, key-placed, on-index, off-index, on-key-there, on-key-absent, on-key-fits, on-key-data, on-key-store, off-key-there, off-key-absent, off-key-fits, off-key-data, off-key-store, on-standing, on-standing-abs, on-standing-below, off-standing, off-standing-abs, off-standing-below}
 use Rattle.send.specs.Send.{wroteIn, absentCode}
-use Rattle.send.proofs.Lists.{pad-short, length-remove-here}
 
 -- ---- absent: 13 for an empty list, 2 for any name
 

@@ -7,9 +7,9 @@ use borrow.Author.Tests.{ltb-true, ltb-false}
 use lib.Dec.{ltb}
 use lib.ListN.{length, take, getD}
 use Rattle.lists.specs.Pad.{pad, allb}
-use Rattle.lists.specs.Find.{has, findBy, slotOf, joined}
-use Rattle.lists.proofs.Tests.{allb-getD, allb-find}
-use Rattle.lists.proofs.Slot.{slot-map, slot-has, find-slot, read-slot, read-spare, take-pad-map}
+use Rattle.lists.specs.Find.{slotOf, joined}
+use Rattle.lists.proofs.Tests.{allb-getD, allb-find, allb-found}
+use Rattle.lists.proofs.Slot.{slot-map, read-slot, read-spare, take-pad-map}
 use Rattle.lists.proofs.Maps.{map-kept, take-map}
 use Rattle.packet.specs.Data.{isSet}
 use Rattle.model.specs.State as model
@@ -50,9 +50,6 @@ pub new-on-fits : (a i v : ℕ) → fitsOn (model.newOn a i v) ≡ true
 unfolding fitsData allb joined
 new-on-fits a i v = refl
 
-found-passes : {A : Type 0} (f g : A → Bool) (z : A) (l : List A) → allb f l ≡ true → has g l ≡ true → f (findBy g z l) ≡ true
-found-passes {A} f g z l p h = ap (λ (x : A). f x) (find-slot g z l) ∙ allb-getD f z l (slotOf g l) (slot-has g l h) p
-
 module _ (t : Table) (w : Wf t) where
   pub few-offs : length (abs t .protocol .offs) ≤ 4
   few-offs = wf-meets t w .few-offs
@@ -75,11 +72,11 @@ module _ (t : Table) (w : Wf t) where
 
   pub off-at-good : (a : ℕ) → model.hasOff a (abs t .protocol) ≡ true → offGood (t .latest) (model.offAt a (abs t .protocol)) ≡ true
   unfolding abs
-  off-at-good a h = found-passes (offGood (t .latest)) (model.isOff a) (model.newOff a) (abs t .protocol .offs) (wf-meets t w .offs-good) h
+  off-at-good a h = allb-found (offGood (t .latest)) (model.isOff a) (model.newOff a) (abs t .protocol .offs) (wf-meets t w .offs-good) h
 
   pub on-at-good : (a i v : ℕ) → model.hasOn a i (abs t .protocol) ≡ true → onGood (t .latest) (model.onAt a i v (abs t .protocol)) ≡ true
   unfolding abs
-  on-at-good a i v h = found-passes (onGood (t .latest)) (model.isOn a i) (model.newOn a i v) (abs t .protocol .ons) (wf-meets t w .ons-good) h
+  on-at-good a i v h = allb-found (onGood (t .latest)) (model.isOn a i) (model.newOn a i v) (abs t .protocol .ons) (wf-meets t w .ons-good) h
 
   -- every channel of the arrays, in use or not, is in its form
   pub off-wf-at : (k : ℕ) (d : OffChannel) → k < 4 → WfOff (getD (t .offs) k d)

@@ -6,15 +6,15 @@ use Prim.Native.Nat.{ℕ, _+_, _≤_, _<_}
 use native.Mathlib.Omega.{arith}
 use native.Mathlib.Numerals.{add-one}
 use borrow.Author.Needs.{needs}
-use borrow.Author.Tests.{eq-eqb, ne-eqb, leb-true, eqb-true, eqb-false, not-true, not-false}
+use borrow.Author.Tests.{eq-eqb, leb-true, not-true, not-false}
 use lib.Dec.{eqb, leb, ltb}
 use lib.ListN.{length, take, drop, getD, set, replicate}
 use lib.Seq.{take-suc, length-take-le}
 use Rattle.lists.specs.Pad.{pad, allb}
 use Rattle.lists.specs.Find.{has, slotOf}
 use Rattle.lists.proofs.Pad.{and-left, and-right, length-of-map, pad-nil}
-use Rattle.lists.proofs.Slot.{slot-has, slot-absent}
-use Rattle.lists.proofs.Tests.{has-same}
+use Rattle.lists.proofs.Slot.{own-place}
+use Rattle.lists.proofs.Tests.{eqb-turn, has-append, has-same}
 use Rattle.lists.proofs.Maps.{has-map, take-map}
 use Rattle.lists.proofs.Looking.{Testing, testing-start, testing-step, testing-end}
 use Rattle.lists.proofs.Copies.{Filling, filling-start, filling-step, filling-end}
@@ -138,29 +138,13 @@ module _ {A : Type 0} (same : A → A → Bool) where
   join false true d e = sym (and-false d)
   join false false d e = refl
 
-  has-last : (f : A → Bool) (l : List A) (y : A) → has f (l ++ y ∷ []) ≡ (has f l || (f y || false))
-  unfolding has
-  has-last f [] y = refl
-  has-last f (x ∷ l) y = at (f x) (has-last f l y)
-    where
-      at : (t : Bool) → has f (l ++ y ∷ []) ≡ (has f l || (f y || false)) → (t || has f (l ++ y ∷ [])) ≡ (t || has f l || (f y || false))
-      at true ih = refl
-      at false ih = ih
-
   -- one more at the end is apart from those before it
   distinct-last : ((x y : A) → same x y ≡ same y x) → (l : List A) (y : A) → distinct same (l ++ y ∷ []) ≡ distinct same l && not (has (same y) l)
   unfolding distinct has
   distinct-last s [] y = refl
   distinct-last s (x ∷ l) y =
-      let a : has (same x) (l ++ y ∷ []) ≡ (has (same x) l || (same y x || false)) = has-last (same x) l y ∙ ap (λ (t : Bool). has (same x) l || (t || false)) (s x y) in
+      let a : has (same x) (l ++ y ∷ []) ≡ (has (same x) l || (same y x || false)) = has-append (same x) l (y ∷ []) ∙ ap (λ (t : Bool). has (same x) l || (t || false)) (s x y) in
       (λ i. not (a i) && distinct-last s l y i) ∙ join (has (same x) l) (same y x) (distinct same l) (has (same y) l)
-
-  own-place : (f : A → Bool) (l : List A) (at : ℕ) → at ≡ slotOf f l → eqb at (length l) ≡ not (has f l)
-  own-place f l at e = go (has f l) refl
-    where
-      go : (t : Bool) → has f l ≡ t → eqb at (length l) ≡ not t
-      go true q = ne-eqb at (length l) (λ k. omega (arith, slot-has f l q))
-      go false q = eq-eqb at (length l) (e ∙ slot-absent f l q)
 
   -- the first i are distinct exactly where good is true
   pub record Apart (room : ℕ) (keys : List A) (n : ℕ) (good : Bool) (i : ℕ) : Type 0 where
@@ -190,21 +174,14 @@ module _ {A : Type 0} (same : A → A → Bool) where
   pub apart-end : (room : ℕ) (keys : List A) (n : ℕ) (good : Bool) (i : ℕ) → Apart room keys n good i → n ≤ i → good ≡ distinct same (take n keys)
   apart-end room keys n good i w h = let e : i ≡ n = omega (arith, w .inside) in w .so ∙ ap (λ (m : ℕ). distinct same (take m keys)) e
 
-eqb-sym : (a b : ℕ) → eqb a b ≡ eqb b a
-eqb-sym a b = go (eqb a b) refl
-  where
-    go : (t : Bool) → eqb a b ≡ t → t ≡ eqb b a
-    go true q = sym (eq-eqb b a (sym (eqb-true a b q)))
-    go false q = sym (ne-eqb b a (λ e. eqb-false a b q (sym e)))
-
 pub offs-step : (keys : List ℕ) (n : ℕ) (good : Bool) (i at : ℕ) → Apart isAddress 4 keys n good i → i < n → at ≡ slotOf (isAddress (getD keys i 0)) (take i keys) → Apart isAddress 4 keys n (good && eqb at i) (i + 1)
-offs-step keys n good i at w h e = apart-step isAddress 4 keys n good i 0 at (λ x y. eqb-sym y x) w h e
+offs-step keys n good i at w h e = apart-step isAddress 4 keys n good i 0 at (λ x y. eqb-turn y x) w h e
 
 abbrev noKey : OnKey
 noKey = record { address = 0; index = 0 }
 
 pub ons-step : (keys : List OnKey) (n : ℕ) (good : Bool) (i at : ℕ) → Apart sameKey 8 keys n good i → i < n → at ≡ slotOf (isKey (getD keys i noKey .address) (getD keys i noKey .index)) (take i keys) → Apart sameKey 8 keys n (good && eqb at i) (i + 1)
-ons-step keys n good i at w h e = apart-step sameKey 8 keys n good i noKey at (λ x y. λ j. eqb-sym (y .address) (x .address) j && eqb-sym (y .index) (x .index) j) w h e
+ons-step keys n good i at w h e = apart-step sameKey 8 keys n good i noKey at (λ x y. λ j. eqb-turn (y .address) (x .address) j && eqb-turn (y .index) (x .index) j) w h e
 
 pub offs-start : (keys : List ℕ) (n : ℕ) → n ≤ 4 → length keys ≡ 4 → Apart isAddress 4 keys n true 0
 offs-start keys n h e = apart-start isAddress 4 keys n h e

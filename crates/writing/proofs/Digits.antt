@@ -10,6 +10,7 @@ use lib.ListN.{length, getD, length-append, List·getD-append}
 use borrow.Author.Tests.{ltb-true, ltb-false, le-leb, ne-eqb}
 use Rattle.lists.specs.Pad.{allb}
 use Rattle.lists.proofs.Pad.{and-left, and-right}
+use Rattle.lists.proofs.Tests.{allb-snoc}
 use Rattle.reading.specs.declared.Number.the-variants.{Value}
 use Rattle.reading.specs.Grammar.{isDigit, leading, valueFrom, value, numberOf}
 use Rattle.writing.specs.Answers.{lastAfter, digitsN, digits}
@@ -75,11 +76,6 @@ value-back (suc k) n h = at (ltb n 10) refl (λ a. value-back k (n / 10) a)
 pub value-digits : (n : ℕ) → value (digits n) ≡ n
 value-digits n = value-back (suc n) n (omega arith)
 
-all-last : (ds : List ℕ) (d : ℕ) → allb isDigit ds ≡ true → isDigit d ≡ true → allb isDigit (ds ++ d ∷ []) ≡ true
-unfolding allb
-all-last [] d h g = rw g
-all-last (b ∷ ds) d h g = rw (and-left (isDigit b) (allb isDigit ds) h, all-last ds d (and-right (isDigit b) (allb isDigit ds) h) g)
-
 glyph-digit : (d : ℕ) → d < 10 → isDigit (48 + d) ≡ true
 glyph-digit d h = rw (le-leb 48 (48 + d) (omega arith), le-leb (48 + d) 57 (omega arith))
 
@@ -92,7 +88,7 @@ all-back (suc k) n h = at (ltb n 10) refl (λ a. all-back k (n / 10) a)
     at true p ih = rw (digits-small n (ltb-true n 10 p), glyph-digit n (ltb-true n 10 p))
     at false p ih =
         let l : 10 ≤ n = ltb-false n 10 p in
-        rw (digits-more n l) (all-last (digits (n / 10)) (48 + n % 10) (ih (omega arith)) (glyph-digit (n % 10) (omega arith)))
+        rw (digits-more n l) (allb-snoc isDigit (digits (n / 10)) (48 + n % 10) (ih (omega arith)) (glyph-digit (n % 10) (omega arith)))
 
 -- all of them are digits
 pub all-digits : (n : ℕ) → allb isDigit (digits n) ≡ true

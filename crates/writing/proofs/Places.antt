@@ -7,13 +7,15 @@ use native.Mathlib.Omega.{arith}
 use mir.Syntax.{w32}
 use mir.Val.{Fits}
 use lib.ListN.{length, take, drop, getD, set, length-append}
-use lib.Seq.{length-take-le, take-at, drop-append-add, drop-drop, take-length, take-suc, paste, paste-zero, paste-suc, length-paste, set-split}
+use lib.Seq.{length-take-le, take-length, take-suc, paste, paste-zero, paste-suc, length-paste, set-split}
 use borrow.Author.Needs.{needs}
 use borrow.Author.Tests.{eq-eqb, ne-eqb}
+use Rattle.lists.specs.Find.{writtenAt}
+use Rattle.lists.proofs.Copies.{written-none, written-after}
 use Rattle.packet.specs.declared.View.{View}
 use Rattle.reading.specs.Text.{bytes}
 use Rattle.writing.specs.Answers.{digits, indexText, worded, okLine, noLine, handlesText, bundleLine}
-use Rattle.writing.specs.Wrote.{put, Wrote}
+use Rattle.writing.specs.Wrote.{Wrote}
 use Rattle.writing.proofs.Digits.{digits-small, digits-more, digits-short}
 
 -- ---- bytes one after the other
@@ -40,6 +42,7 @@ copy-step old text at new i s h =
     }
 
 pub copy-end : (old text : List ℕ) (at : ℕ) (new : List ℕ) (i : ℕ) → Copying old text at new i → length text ≤ i → Wrote (length text) old new at (at + i) text
+unfolding writtenAt
 copy-end old text at new i s h =
     let e : i ≡ length text = omega (arith, s .within) in
     record {
@@ -49,6 +52,7 @@ copy-end old text at new i s h =
     }
 
 pub digit-stored : (old : List ℕ) (at d : ℕ) → (at < length old) × (d < 10) → Wrote 1 old (set old at (48 + d)) at (at + 1) ((48 + d) ∷ [])
+unfolding writtenAt
 digit-stored old at d h =
     record {
       place = refl;
@@ -60,25 +64,12 @@ digit-stored old at d h =
     }
 
 -- two texts one after the other
-put-put : (old s t : List ℕ) (at : ℕ) → at ≤ length old → put (at + length s) t (put at s old) ≡ put at (s ++ t) old
-put-put old s t at h =
-    let p = take at old ++ s in
-    let d = drop (at + length s) old in
-    let l : length p ≡ at + length s = length-append (take at old) s ∙ ap (λ (k : ℕ). k + length s) (length-take-le at old h) in
-    let m : at + length s + length t ≡ at + length (s ++ t) = omega (arith, length-append s t) in
-    let a : take (at + length s) (p ++ d) ≡ p = take-at p d (at + length s) l in
-    let b : drop (at + length s + length t) (p ++ d) ≡ drop (at + length (s ++ t)) old =
-    ap (λ (k : ℕ). drop (k + length t) (p ++ d)) (sym l) ∙ drop-append-add p d (length t) ∙ drop-drop (length t) (at + length s) old ∙ ap (λ (k : ℕ). drop k old) m in
-    ap (λ (x : List ℕ). x ++ t ++ drop (at + length s + length t) (p ++ d)) a
-    ∙ ap (λ (x : List ℕ). p ++ t ++ x) b
-    ∙ ap (λ (x : List ℕ). x ++ drop (at + length (s ++ t)) old) (append-assoc (take at old) s t)
-
 pub then : (x y z : ℕ) (a b c s t : List ℕ) (at j k : ℕ) → at ≤ length a → x + y ≤ z → Wrote x a b at j s → Wrote y b c j k t → Wrote z a c at k (s ++ t)
 then x y z a b c s t at j k h r p q =
     record {
       place = omega (arith, p .place, q .place, length-append s t);
       short = omega (arith, p .short, q .short, length-append s t);
-      list = q .list ∙ ap (λ (i : ℕ). put i t b) (p .place) ∙ ap (λ (l : List ℕ). put (at + length s) t l) (p .list) ∙ put-put a s t at h;
+      list = q .list ∙ ap (λ (i : ℕ). writtenAt i t b) (p .place) ∙ ap (λ (l : List ℕ). writtenAt (at + length s) t l) (p .list) ∙ written-after at s t a h;
     }
 
 -- the same text in other words, with more room
@@ -87,7 +78,7 @@ retold x y a b s t at k e r w =
     record {
       place = w .place ∙ ap (λ (l : List ℕ). at + length l) e;
       short = omega (arith, w .short, ap length e);
-      list = w .list ∙ ap (λ (l : List ℕ). put at l a) e;
+      list = w .list ∙ ap (λ (l : List ℕ). writtenAt at l a) e;
     }
 
 -- ---- a number
@@ -184,7 +175,7 @@ bundle-start first old handles from at count h e w =
       size = refl;
       within = omega arith;
       far = omega arith;
-      wrote = record { place = omega arith; short = omega arith; list = paste-zero old at [] };
+      wrote = record { place = omega arith; short = omega arith; list = written-none at old };
     }
 
 pub bundle-step : (old handles new next : List ℕ) (at count k j i : ℕ) → Bundling old handles at count new k i → i < count → length next ≡ length new

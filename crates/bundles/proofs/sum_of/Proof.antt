@@ -1,6 +1,6 @@
 use Prim.Native.Nat.{_-_}
 use borrow.Author.Needs.{needs}
-use Rattle.bundles.proofs.Model.{sum-start, sum-fits, sum-step, sum-done, Summing}
+use Rattle.lists.proofs.Sums.{Summing, sum-start, sum-fits, sum-step, sum-done}
 use Rattle.bundles.proofs.sum_of.Statement.{statement}
 use Rattle.bundles.proofs.sum_of.Tie as tie
 

@@ -1,6 +1,6 @@
 use Prim.Native.Nat.{_-_}
 use borrow.Author.Needs.{needs}
-use Rattle.bundles.proofs.Model.{Summing, sum-start, sum-fits, sum-step, sum-done}
+use Rattle.lists.proofs.Sums.{Summing, sum-start, sum-fits, sum-step, sum-done}
 use Rattle.fragments.proofs.sum_of.Statement.{statement}
 use Rattle.fragments.proofs.sum_of.Tie as tie
 

@@ -1,11 +1,12 @@
-use Rattle.table.proofs.Slots.{Searching, slots}
+use Rattle.table.proofs.Slots.{slots}
+use Rattle.lists.proofs.Looking.{Finding}
 use Prim.Native.Nat.{_-_}
 use Rattle.table.specs.Keys.{isAddress, isKey}
 use Rattle.table.proofs.off_slot.Statement.{statement}
 use Rattle.table.proofs.off_slot.Tie as tie
 
 abbrev Inv-loop : tie.InvT-loop
-Inv-loop n address keys i₀ i = Searching (isAddress address) 4 keys n i
+Inv-loop n address keys i₀ i = Finding (isAddress address) 4 n keys i
 
 abbrev μ-loop : tie.MeasureT-loop
 μ-loop n address keys i₀ i = n - i
