@@ -13,23 +13,21 @@ use Rattle.lists.specs.Pad.{allb}
 use Rattle.lists.specs.Find.{has, putBy, removeFirst, swapRemoveFirst}
 use Rattle.lists.proofs.Pad.{and-left, and-right}
 use Rattle.lists.proofs.Find.{allb-put, put-new, find-key}
-use Rattle.lists.proofs.Tests.{and-both, and-4, and-5, eqb-turn, allb-tail, allb-none, allb-cons, allb-snoc, allb-weaken, allb-joins, allb-parts, allb-remove, allb-keep, allb-find, allb-swap}
+use Rattle.lists.proofs.Tests.{and-both, and-4, and-5, eqb-turn, allb-tail, allb-none, allb-cons, allb-snoc, allb-weaken, allb-joins, allb-remove, allb-keep, allb-find, allb-swap}
 use Rattle.lists.proofs.Maps.{allb-map-so}
 use Rattle.seq.specs.Num.{legal, add, dist, cmp}
 use Rattle.packet.specs.declared.OutEntry.{OutEntry}
 use Rattle.packet.specs.declared.Packet.{Packet}
 use Rattle.packet.specs.declared.Record.{Record}
-use Rattle.packet.specs.declared.Place.{Place}
-use Rattle.packet.specs.declared.Place.the-variants.{Again, At}
 use Rattle.packet.specs.Data.{isSet, isFlag, noEntry, Range, noRange, range, rangeOf, singleAcks}
 use Rattle.model.specs.State.{Group, OffData, noData, withOut, withAcks, withGroups, withBundles}
-use Rattle.model.specs.Acks.{isGreater, ackCumulative, hasNumber, ackSingles, search, insertedAt, entryNumber, forwardedEntry, insertOut, notBefore, is, ackInSingles, takeWritten}
+use Rattle.model.specs.Acks.{isGreater, ackCumulative, hasNumber, ackSingles, search, entryNumber, forwardedEntry, insertOut, notBefore, is, ackInSingles, takeWritten}
 use Rattle.model.specs.Group.{span, isFirst, newGroup, full, inPlaces, store, stale, Stored, done, beyond, storedIn, present, create, isBeyond, inGroup, groupAt, placed, addInPacket}
 use Rattle.model.specs.Record.{cumulated, ackedOn, ackedOff, queued}
 use Rattle.model.specs.Rust.{cumulatedIn, insertedIf, forwarded, sentEntry, sentEntries, due, markIf, mark, kept, resentData}
 use Rattle.model.specs.Wellformed.{distinct, entryGood, groupGood, sameFirst, dataGood}
 use Rattle.kept.proofs.Distinct.{eqb-alike, apart-none, apart-remove, apart-put}
-use Rattle.kept.proofs.Reorder.{add-legal}
+use Rattle.kept.proofs.Reorder.{add-legal, allb-inserted}
 
 -- ---- the test as facts
 
@@ -228,13 +226,9 @@ added-good t p d l g = at (rangeOf p) l
 forwarded-entry : (t n : ℕ) → legal n ≡ true → entryGood t (forwardedEntry n t) ≡ true
 forwarded-entry t n h = entry-test t (forwardedEntry n t) (record { number = h; flag = refl; bare = refl; time = omega arith; sent = omega arith })
 
-allb-at : (f : OutEntry → Bool) (k : Place) (e : OutEntry) (es : List OutEntry) → f e ≡ true → allb f es ≡ true → allb f (insertedAt k e es) ≡ true
-allb-at f Again e es h g = g
-allb-at f (At k) e es h g = allb-parts f k e es h g
-
 inserted-all : (t : ℕ) (b : Bool) (e : OutEntry) (es : List OutEntry) → entryGood t e ≡ true → allb (entryGood t) es ≡ true → allb (entryGood t) (insertedIf b e es) ≡ true
 unfolding insertOut
-inserted-all t true e es h g = allb-at (entryGood t) (search entryNumber noEntry (e .number) es (length es)) e es h g
+inserted-all t true e es h g = allb-inserted (entryGood t) (search entryNumber noEntry (e .number) es (length es)) e es h g
 inserted-all t false e es h g = g
 
 pub forwarded-good : (t : ℕ) (b : Bool) (r : Record) (d : OffData) → legal (r .number) ≡ true → DataGood t d → DataGood t (forwarded b t r d)

@@ -193,9 +193,9 @@ side-move e (p ∷ b) q bs he l gb gq r h = at (eqb (p .number) e) refl (λ z. s
         let d : 1 ≤ dist (p .number) e = omega (arith, r .2) in
         record { legal = he; buffered = gb; waiting = gq; rising = (d, r .1, r .2, r .3); behind = h }
 
-allb-inserted : (f : Packet → Bool) (k : Place) (p : Packet) (b : List Packet) → f p ≡ true → allb f b ≡ true → allb f (insertedAt k p b) ≡ true
-allb-inserted f Again p b h g = g
-allb-inserted f (At k) p b h g = allb-parts f k p b h g
+pub allb-inserted : {A : Type 0} (f : A → Bool) (k : Place) (x : A) (l : List A) → f x ≡ true → allb f l ≡ true → allb f (insertedAt k x l) ≡ true
+allb-inserted f Again x l h g = g
+allb-inserted f (At k) x l h g = allb-parts f k x l h g
 
 good-insert : (p : Packet) (b : List Packet) → packetGood p ≡ true → allb packetGood b ≡ true → allb packetGood (insertBuffered p b) ≡ true
 unfolding insertBuffered
