@@ -1,23 +1,26 @@
 -- The test of the form: what each part of `well_formed` owes, and that it says what it should. Assumes nothing.
 use mathlib.Core.Path.{_≡_, refl, sym, ap, _∙_}
 use mathlib.Core.Logic.{_↔_}
-use mathlib.Core.Bool.{Bool, true, false, not, cond, _&&_, _||_, and-true, and-false}
+use mathlib.Core.Bool.{Bool, true, false, not, cond, _&&_, _||_, and-true, and-false, and-assoc}
 use mathlib.Core.List.{List, [], _∷_, map, map-map}
 use mathlib.Core.Option.{Option, none, some}
-use Prim.Native.Nat.{ℕ, zero, suc, _+_, _-_, _≤_, _<_, zero-le}
+use Prim.Native.Nat.{ℕ, zero, suc, _+_, _-_, _%_, _≤_, _<_, zero-le}
 use native.Mathlib.Nat.{sub-zero, zero-add}
 use native.Mathlib.Omega.{arith}
-use borrow.Author.Tests.{le-leb, lt-leb, eq-eqb, eqb-true, leb-true, not-true, not-false}
+use borrow.Author.Tests.{le-leb, lt-leb, lt-ltb, le-ltb, eq-eqb, eqb-true, leb-true, not-true, not-false}
+use lib.Bits.{bitAnd, and-le-r, and-mask}
+use mir.Syntax.{w32}
+use mir.Val.{Fits}
 use lib.Dec.{leb, ltb, eqb}
 use lib.ListN.{length, take, drop, getD, length-map, drop-of-length-le}
 use lib.Seq.{length-take-le, getD-take, drop-nil}
 use Rattle.lists.specs.Pad.{pad, allb}
 use Rattle.lists.specs.Find.{has, sum}
 use Rattle.lists.proofs.Pad.{pad-of-tail, tail-of-pad, and-left, and-right}
-use Rattle.lists.proofs.Tests.{allb-all, allb-getD}
+use Rattle.lists.proofs.Tests.{allb-all, allb-getD, and-6}
 use Rattle.lists.proofs.Maps.{allb-map, map-kept}
 use Rattle.lists.proofs.Positions.{drop-here}
-use Rattle.lists.proofs.Looking.{past-turn, Both, both-hit, both-step}
+use Rattle.lists.proofs.Looking.{past-turn, tested, tested-parts}
 use Rattle.lists.proofs.Sums.{sum-pad}
 use Rattle.seq.specs.Num.{legal}
 use Rattle.model.specs.Group.{filled}
@@ -25,7 +28,7 @@ use Rattle.model.specs.Wellformed.{distinct, sameFirst, groupGood}
 use Rattle.bundles.specs.Bundles.{isZero}
 use Rattle.fragments.specs.declared.Fragments.{Fragments}
 use Rattle.fragments.specs.declared.Groups.{Groups}
-use Rattle.fragments.specs.Groups.{markOf, handleOf, placeOf, places, absG, reprG, WfG, noGroup, zeroGroup, abs, Wf, placeGood, placesGood, sized, fragmentsGood, usedGood, spareGood, firstsDistinct, groupsGood}
+use Rattle.fragments.specs.Groups.{markOf, handleOf, placeOf, places, absG, reprG, WfG, noGroup, zeroGroup, abs, Wf, placeGood, placesGood, odds, groupOf, sized, fragmentsGood, usedGood, spareGood, firstsDistinct, groupsGood}
 use Rattle.fragments.proofs.One.{wf-reprG, length-places, g-len, g-count, g-marks, g-handles, g-32, g-32h, g-few, g-len-le}
 use Rattle.fragments.proofs.Many.{outside, wf-len, wf-groups, wf-four, len-le, wfg-at}
 
@@ -71,26 +74,90 @@ placed-end ms hs n i good c h =
     let d : drop (n - i) (drop i ms) ≡ [] = ap (λ (r : List ℕ). drop (n - i) r) e ∙ drop-nil (n - i) in
     sym (and-true good) ∙ sym (λ j. good && (allb isZero (d j) && placesGood (e j) (drop i hs))) ∙ c .rest
 
--- ---- fragments_good
+-- ---- odd_of: what is below i is counted
 
-pub long-bad : (g : Fragments) → 32 < g .len → false ≡ fragmentsGood g
-unfolding fragmentsGood
-long-bad g h = rw (lt-leb (g .len) 32 h, and-false)
+pub record Odd (ms : List ℕ) (s i : ℕ) : Type 0 where
+  pub below : i ≤ 32
+  pub marks : length ms ≡ 32
+  pub small : s ≤ i
+  pub rest : s + odds (drop i ms) ≡ odds ms
 
-pub places-bad : (g : Fragments) (t : Bool) → t ≡ (allb isZero (drop (g .len) (g .marks)) && placesGood (g .marks) (g .handles)) → not t ≡ true → false ≡ fragmentsGood g
-unfolding fragmentsGood
-places-bad g t p q =
-    let e : allb isZero (drop (g .len) (g .marks)) && placesGood (g .marks) (g .handles) ≡ false = sym p ∙ not-true t q in
-    sym (ap (λ (x : Bool). sized g && leb (g .len) 32 && x && eqb (sum (g .marks)) (g .count)) e ∙ rw and-false)
+pub odd-start : (ms : List ℕ) → length ms ≡ 32 → Odd ms 0 0
+odd-start ms h = record { below = zero-le; marks = h; small = zero-le; rest = zero-add (odds ms) }
 
-pub count-good : (g : Fragments) (t : Bool) (s : ℕ) → length (g .marks) ≡ 32 → length (g .handles) ≡ 32 → g .len ≤ 32 → t ≡ (allb isZero (drop (g .len) (g .marks)) && placesGood (g .marks) (g .handles)) → not t ≡ false → s ≡ sum (g .marks) → eqb s (g .count) ≡ fragmentsGood g
-unfolding fragmentsGood
-count-good g t s a b l p q e =
-    let z = eq-eqb (length (g .marks)) 32 a in
-    let y = eq-eqb (length (g .handles)) 32 b in
-    let x = le-leb (g .len) 32 l in
-    let u : allb isZero (drop (g .len) (g .marks)) && placesGood (g .marks) (g .handles) ≡ true = sym p ∙ not-false t q in
-    ap (λ (k : ℕ). eqb k (g .count)) e ∙ sym (λ j. z j && y j && x j && u j && eqb (sum (g .marks)) (g .count))
+pub odd-fits : (ms : List ℕ) (s i : ℕ) → Odd ms s i → i < 32 → Fits w32 (s + bitAnd (getD ms i 0) 1)
+odd-fits ms s i c h = record { fits = omega (arith, c .small, and-le-r (getD ms i 0) 1) }
+
+pub odd-step : (ms : List ℕ) (s i : ℕ) → Odd ms s i → i < 32 → Odd ms (s + bitAnd (getD ms i 0) 1) (i + 1)
+unfolding odds
+odd-step ms s i c h =
+    let m : bitAnd (getD ms i 0) 1 ≡ getD ms i 0 % 2 = and-mask (getD ms i 0) 1 in
+    let e : odds (drop i ms) ≡ getD ms i 0 % 2 + odds (drop (i + 1) ms) = ap odds (drop-here ms i 0 (omega (arith, c .marks))) in
+    record {
+      below = omega arith;
+      marks = c .marks;
+      small = omega (arith, c .small, and-le-r (getD ms i 0) 1);
+      rest = omega (arith, m, e, c .rest);
+    }
+
+pub odd-done : (ms : List ℕ) (s i : ℕ) → Odd ms s i → 32 ≤ i → s ≡ odds ms
+unfolding odds
+odd-done ms s i c h =
+    let e : odds (drop i ms) ≡ 0 = ap odds (drop-of-length-le ms {i = i} (omega (arith, c .marks))) in
+    omega (arith, e, c .rest)
+
+odd-mark : (m h : ℕ) → placeGood m h ≡ true → m % 2 ≡ m
+odd-mark m h p = at (eqb m 1) refl
+  where
+    at : (t : Bool) → eqb m 1 ≡ t → m % 2 ≡ m
+    at true q = rw (eqb-true m 1 q)
+    at false q =
+        let e : eqb m 0 && eqb h 0 ≡ true = sym (ap (λ (x : Bool). x || eqb m 0 && eqb h 0) q) ∙ p in
+        rw (eqb-true m 0 (and-left (eqb m 0) (eqb h 0) e))
+
+-- where each mark is 1 or 0, the odd ones are their sum
+pub odds-sum : (ms hs : List ℕ) → length ms ≡ length hs → placesGood ms hs ≡ true → odds ms ≡ sum ms
+unfolding odds sum placesGood
+odds-sum [] hs e p = refl
+odds-sum (m ∷ ms) [] e p = absurd (omega arith)
+odds-sum (m ∷ ms) (h ∷ hs) e p =
+    let a = odd-mark m h (and-left (placeGood m h) (placesGood ms hs) p) in
+    let b = odds-sum ms hs (omega arith) (and-right (placeGood m h) (placesGood ms hs) p) in
+    λ i. a i + b i
+
+-- ---- places_zero
+
+pub record Cleared (ms hs : List ℕ) (i : ℕ) (clear : Bool) : Type 0 where
+  pub below : i ≤ 32
+  pub marks : length ms ≡ 32
+  pub handles : length hs ≡ 32
+  pub rest : clear && (allb isZero (drop i ms) && allb isZero (drop i hs)) ≡ allb isZero ms && allb isZero hs
+
+pub cleared-start : (ms hs : List ℕ) → length ms ≡ 32 → length hs ≡ 32 → Cleared ms hs 0 true
+cleared-start ms hs a b = record { below = zero-le; marks = a; handles = b; rest = refl }
+
+pub cleared-step : (ms hs : List ℕ) (i : ℕ) (clear : Bool) → Cleared ms hs i clear → i < 32 → Cleared ms hs (i + 1) (clear && eqb (getD ms i 0) 0 && eqb (getD hs i 0) 0)
+unfolding allb
+cleared-step ms hs i clear c h =
+    let p = eqb (getD ms i 0) 0 in
+    let q = eqb (getD hs i 0) 0 in
+    let a = allb isZero (drop (i + 1) ms) in
+    let b = allb isZero (drop (i + 1) hs) in
+    let u : allb isZero (drop i ms) ≡ p && a = ap (allb isZero) (drop-here ms i 0 (omega (arith, c .marks))) in
+    let v : allb isZero (drop i hs) ≡ q && b = ap (allb isZero) (drop-here hs i 0 (omega (arith, c .handles))) in
+    record {
+      below = omega arith;
+      marks = c .marks;
+      handles = c .handles;
+      rest = shuffle clear p q a b ∙ sym (λ j. clear && (u j && v j)) ∙ c .rest;
+    }
+
+pub cleared-end : (ms hs : List ℕ) (i : ℕ) (clear : Bool) → Cleared ms hs i clear → 32 ≤ i → clear ≡ allb isZero ms && allb isZero hs
+unfolding allb
+cleared-end ms hs i clear c h =
+    let d : drop i ms ≡ [] = drop-of-length-le ms {i = i} (omega (arith, c .marks)) in
+    let e : drop i hs ≡ [] = drop-of-length-le hs {i = i} (omega (arith, c .handles)) in
+    sym (and-true clear) ∙ sym (λ j. clear && (allb isZero (d j) && allb isZero (e j))) ∙ c .rest
 
 -- ---- the test of one group says what it should
 
@@ -182,6 +249,7 @@ good-wfg g q =
     λ i. record { updated = g .updated; first = g .first; len = sym n i; count = sym c i; marks = m i; handles = h i }
 
 wfg-good : (g : Fragments) → WfG g → fragmentsGood g ≡ true
+unfolding fragmentsGood
 wfg-good g w =
     let ps = absG g .places in
     let n : length (map markOf ps) ≡ length ps = length-map ps markOf in
@@ -189,42 +257,122 @@ wfg-good g w =
     let z : allb isZero (drop (g .len) (g .marks)) ≡ true = (λ i. allb isZero (drop (k i) (g-marks g w i))) ∙ tail-of-pad isZero 0 refl 32 (map markOf ps) in
     let p : placesGood (g .marks) (g .handles) ≡ true = (λ i. placesGood (g-marks g w i) (g-handles g w i)) ∙ pads-good 32 ps in
     let s : sum (g .marks) ≡ g .count = ap sum (g-marks g w) ∙ sum-pad 32 (map markOf ps) (omega (arith, g-few g w)) ∙ sum-marks ps ∙ sym (g-count g w) in
-    let t : true ≡ allb isZero (drop (g .len) (g .marks)) && placesGood (g .marks) (g .handles) = sym (λ i. z i && p i) in
-    sym (count-good g true (sum (g .marks)) (g-32 g w) (g-32h g w) (g-len-le g w) t refl refl) ∙ eq-eqb (sum (g .marks)) (g .count) s
+    let a = eq-eqb (length (g .marks)) 32 (g-32 g w) in
+    let b = eq-eqb (length (g .handles)) 32 (g-32h g w) in
+    let l = le-leb (g .len) 32 (g-len-le g w) in
+    let c = eq-eqb (sum (g .marks)) (g .count) s in
+    λ i. a i && b i && l i && (z i && p i) && c i
 
 pub fragments-iff : (g : Fragments) → fragmentsGood g ≡ true ↔ WfG g
 fragments-iff g = (good-wfg g, wfg-good g)
 
--- ---- place_good
+-- ---- used_good
 
-pub form-bad : (g : Fragments) (used : Bool) (latest : ℕ) (t : Bool) → t ≡ fragmentsGood g → not t ≡ true → false ≡ cond used (usedGood latest g) (spareGood g)
-form-bad g used latest t p q = at used
-  where
-    e : fragmentsGood g ≡ false
-    e = sym p ∙ not-true t q
+module _ (ms hs : List ℕ) (first len count updated : ℕ) (a : length ms ≡ 32) (b : length hs ≡ 32) where
+  form-is : (t : Bool) → t ≡ (allb isZero (drop len ms) && placesGood ms hs) → leb len 32 && t && eqb (odds ms) count ≡ fragmentsGood (groupOf ms hs first len count updated)
+  unfolding fragmentsGood
+  form-is true q =
+      let z = eq-eqb (length ms) 32 a in
+      let y = eq-eqb (length hs) 32 b in
+      let e : odds ms ≡ sum ms = odds-sum ms hs (a ∙ sym b) (and-right (allb isZero (drop len ms)) (placesGood ms hs) (sym q)) in
+      λ j. sym z j && sym y j && leb len 32 && q j && eqb (e j) count
+  form-is false q =
+      let l : leb len 32 && false ≡ false = and-false (leb len 32) in
+      let r : eqb (length ms) 32 && eqb (length hs) 32 && leb len 32 && false ≡ false = and-false (eqb (length ms) 32 && eqb (length hs) 32 && leb len 32) in
+      ap (λ (x : Bool). x && eqb (odds ms) count) l ∙ sym (ap (λ (x : Bool). x && eqb (sum ms) count) r) ∙ (λ j. eqb (length ms) 32 && eqb (length hs) 32 && leb len 32 && q j && eqb (sum ms) count)
 
-    at : (u : Bool) → false ≡ cond u (usedGood latest g) (spareGood g)
-    at true = sym (ap (λ (x : Bool). x && (legal (g .first) && leb (g .updated) latest)) e)
-    at false = sym (ap (λ (x : Bool). x && (eqb (g .first) 0 && eqb (g .updated) 0 && eqb (g .len) 0)) e)
+  pub used-good : (latest : ℕ) (t : Bool) (s : ℕ) (l : Bool) → t ≡ (allb isZero (drop len ms) && placesGood ms hs) → s ≡ odds ms → l ≡ legal first → leb len 32 && t && eqb s count && l && leb updated latest ≡ usedGood latest (groupOf ms hs first len count updated)
+  used-good latest t s l p q e =
+      let f : leb len 32 && t && eqb s count ≡ fragmentsGood (groupOf ms hs first len count updated) = ap (λ (k : ℕ). leb len 32 && t && eqb k count) q ∙ form-is t p in
+      and-assoc (leb len 32 && t && eqb s count) l (leb updated latest) ∙ (λ j. f j && (e j && leb updated latest))
 
-pub used-good : (g : Fragments) (used : Bool) (latest : ℕ) (t l : Bool) → t ≡ fragmentsGood g → not t ≡ false → used ≡ true → l ≡ legal (g .first) → l && leb (g .updated) latest ≡ cond used (usedGood latest g) (spareGood g)
-used-good g used latest t l p q u e =
-    let f : fragmentsGood g ≡ true = sym p ∙ not-false t q in
-    ap (λ (x : Bool). x && leb (g .updated) latest) e ∙ sym (ap (λ (x : Bool). cond x (usedGood latest g) (spareGood g)) u ∙ ap (λ (x : Bool). x && (legal (g .first) && leb (g .updated) latest)) f)
+-- ---- spare_good
 
-pub spare-good : (g : Fragments) (used : Bool) (latest : ℕ) (t : Bool) → t ≡ fragmentsGood g → not t ≡ false → used ≡ false → eqb (g .first) 0 && eqb (g .updated) 0 && eqb (g .len) 0 ≡ cond used (usedGood latest g) (spareGood g)
-spare-good g used latest t p q u =
-    let f : fragmentsGood g ≡ true = sym p ∙ not-false t q in
-    sym (ap (λ (x : Bool). cond x (usedGood latest g) (spareGood g)) u ∙ ap (λ (x : Bool). x && (eqb (g .first) 0 && eqb (g .updated) 0 && eqb (g .len) 0)) f)
+spare-zero : (g : Fragments) → spareGood g ≡ true → g ≡ zeroGroup
+unfolding places
+spare-zero g q =
+    let a = eqb (g .first) 0 in
+    let b = eqb (g .updated) 0 in
+    let c = eqb (g .len) 0 in
+    let r : a && b && c ≡ true = and-right (fragmentsGood g) (a && b && c) q in
+    let s : a && b ≡ true = and-left (a && b) c r in
+    let w : WfG g = good-wfg g (and-left (fragmentsGood g) (a && b && c) q) in
+    let f = eqb-true (g .first) 0 (and-left a b s) in
+    let t = eqb-true (g .updated) 0 (and-right a b s) in
+    let l = eqb-true (g .len) 0 (and-right (a && b) c r) in
+    w ∙ (λ i. reprG (record { first = f i; updated = t i; places = places (l i) (g .marks) (g .handles) }))
+
+zero-good : spareGood zeroGroup ≡ true
+zero-good = ap (λ (x : Bool). x && true) (wfg-good zeroGroup (wf-reprG noGroup zero-le))
+
+abbrev clearAt : Fragments → Bool
+clearAt g = allb isZero (g .marks) && allb isZero (g .handles) && eqb (g .first) 0 && eqb (g .len) 0 && eqb (g .count) 0 && eqb (g .updated) 0
+
+clear-zero : (g : Fragments) → length (g .marks) ≡ 32 → length (g .handles) ≡ 32 → clearAt g ≡ true → g ≡ zeroGroup
+unfolding filled
+clear-zero g a b q =
+    let p = and-6 (allb isZero (g .marks)) (allb isZero (g .handles)) (eqb (g .first) 0) (eqb (g .len) 0) (eqb (g .count) 0) (eqb (g .updated) 0) q in
+    let f = eqb-true (g .first) 0 (p .2) in
+    let l = eqb-true (g .len) 0 (p .3) in
+    let c = eqb-true (g .count) 0 (p .4) in
+    let t = eqb-true (g .updated) 0 (p .5) in
+    let m : g .marks ≡ pad 32 0 [] = pad-of-tail isZero 0 (λ k r. eqb-true k 0 r) (g .marks) 0 (p .0) ∙ ap (λ (k : ℕ). pad k 0 []) a in
+    let h : g .handles ≡ pad 32 0 [] = pad-of-tail isZero 0 (λ k r. eqb-true k 0 r) (g .handles) 0 (p .1) ∙ ap (λ (k : ℕ). pad k 0 []) b in
+    λ i. record { updated = t i; first = f i; len = l i; count = c i; marks = m i; handles = h i }
+
+zero-clear : clearAt zeroGroup ≡ true
+unfolding pad allb filled
+zero-clear = refl
+
+-- two tests of which each tells the other
+same-test : (a b : Bool) → (a ≡ true → b ≡ true) → (b ≡ true → a ≡ true) → a ≡ b
+same-test true b p q = sym (p refl)
+same-test false true p q = q refl
+same-test false false p q = refl
+
+clear-is : (g : Fragments) → length (g .marks) ≡ 32 → length (g .handles) ≡ 32 → clearAt g ≡ spareGood g
+clear-is g a b = same-test (clearAt g) (spareGood g) (λ q. ap spareGood (clear-zero g a b q) ∙ zero-good) (λ q. ap clearAt (spare-zero g q) ∙ zero-clear)
+
+pub spare-good : (ms hs : List ℕ) (first len count updated : ℕ) (t : Bool) → length ms ≡ 32 → length hs ≡ 32 → t ≡ (allb isZero ms && allb isZero hs) → t && eqb first 0 && eqb len 0 && eqb count 0 && eqb updated 0 ≡ spareGood (groupOf ms hs first len count updated)
+spare-good ms hs first len count updated t a b e = ap (λ (x : Bool). x && eqb first 0 && eqb len 0 && eqb count 0 && eqb updated 0) e ∙ clear-is (groupOf ms hs first len count updated) a b
 
 -- ---- each_good
 
-module _ (l : List Fragments) (n latest i : ℕ) (b : Bool) (c : Both (usedGood latest) spareGood l 4 n i) (h : i < 4) (p : b ≡ cond (ltb i n) (usedGood latest (getD l i outside)) (spareGood (getD l i outside))) where
-  pub each-hit : not b ≡ true → false ≡ allb (usedGood latest) (take n l) && allb spareGood (drop n l)
-  each-hit q = both-hit (usedGood latest) spareGood outside l 4 n i b c h p (not-true b q)
+-- the group in place i, in use or not
+abbrev pub goodIn : ℕ → List Fragments → ℕ → ℕ → Bool
+goodIn latest l n i = cond (ltb i n) (usedGood latest (getD l i outside)) (spareGood (getD l i outside))
 
-  pub each-step : not b ≡ false → Both (usedGood latest) spareGood l 4 n (i + 1)
-  each-step q = both-step (usedGood latest) spareGood outside l 4 n i b c h p (not-false b q)
+module _ (latest : ℕ) (l : List Fragments) (n i : ℕ) (b r : Bool) (e : b ≡ r) where
+  pub in-use : i < n → r ≡ usedGood latest (getD l i outside) → b ≡ goodIn latest l n i
+  in-use h p = e ∙ p ∙ sym (ap (λ (x : Bool). cond x (usedGood latest (getD l i outside)) (spareGood (getD l i outside))) (lt-ltb i n h))
+
+  pub in-spare : n ≤ i → r ≡ spareGood (getD l i outside) → b ≡ goodIn latest l n i
+  in-spare h p = e ∙ p ∙ sym (ap (λ (x : Bool). cond x (usedGood latest (getD l i outside)) (spareGood (getD l i outside))) (le-ltb i n h))
+
+four-of : (a b c d : Bool) → a && b && c && d ≡ a && (b && (c && (d && true)))
+four-of true true true d = sym (and-true d)
+four-of true true false d = refl
+four-of true false c d = refl
+four-of false b c d = refl
+
+four-are : (latest : ℕ) (l : List Fragments) (n : ℕ) → length l ≡ 4 → goodIn latest l n 0 && (goodIn latest l n 1 && (goodIn latest l n 2 && (goodIn latest l n 3 && true))) ≡ tested (usedGood latest) spareGood n l
+unfolding tested
+four-are latest [] n e = absurd (omega arith)
+four-are latest (a ∷ []) n e = absurd (omega arith)
+four-are latest (a ∷ b ∷ []) n e = absurd (omega arith)
+four-are latest (a ∷ b ∷ c ∷ []) n e = absurd (omega arith)
+four-are latest (a ∷ b ∷ c ∷ d ∷ x ∷ l) n e = absurd (omega arith)
+four-are latest (a ∷ b ∷ c ∷ d ∷ []) zero e = refl
+four-are latest (a ∷ b ∷ c ∷ d ∷ []) (suc zero) e = refl
+four-are latest (a ∷ b ∷ c ∷ d ∷ []) (suc (suc zero)) e = refl
+four-are latest (a ∷ b ∷ c ∷ d ∷ []) (suc (suc (suc zero))) e = refl
+four-are latest (a ∷ b ∷ c ∷ d ∷ []) (suc (suc (suc (suc n)))) e =
+    let m = suc (suc (suc (suc n))) in
+    rw (lt-ltb 0 m (omega arith), lt-ltb 1 m (omega arith), lt-ltb 2 m (omega arith), lt-ltb 3 m (omega arith))
+
+pub each-is : (latest : ℕ) (l : List Fragments) (n : ℕ) (a b c d : Bool) → length l ≡ 4 → a ≡ goodIn latest l n 0 → b ≡ goodIn latest l n 1 → c ≡ goodIn latest l n 2 → d ≡ goodIn latest l n 3 → a && b && c && d ≡ allb (usedGood latest) (take n l) && allb spareGood (drop n l)
+each-is latest l n a b c d e p q r s =
+    four-of a b c d ∙ (λ i. p i && (q i && (r i && (s i && true)))) ∙ four-are latest l n e ∙ tested-parts (usedGood latest) spareGood n l
 
 -- ---- firsts_distinct
 
@@ -288,20 +436,6 @@ rest-good gs latest t u a l p q e =
 
 -- ---- the test says what it should
 
-spare-zero : (g : Fragments) → spareGood g ≡ true → g ≡ zeroGroup
-unfolding places
-spare-zero g q =
-    let a = eqb (g .first) 0 in
-    let b = eqb (g .updated) 0 in
-    let c = eqb (g .len) 0 in
-    let r : a && b && c ≡ true = and-right (fragmentsGood g) (a && b && c) q in
-    let s : a && b ≡ true = and-left (a && b) c r in
-    let w : WfG g = good-wfg g (and-left (fragmentsGood g) (a && b && c) q) in
-    let f = eqb-true (g .first) 0 (and-left a b s) in
-    let t = eqb-true (g .updated) 0 (and-right a b s) in
-    let l = eqb-true (g .len) 0 (and-right (a && b) c r) in
-    w ∙ (λ i. reprG (record { first = f i; updated = t i; places = places (l i) (g .marks) (g .handles) }))
-
 abbrev again : Fragments → Fragments
 again g = reprG (absG g)
 
@@ -352,12 +486,8 @@ wf-good latest gs w g d =
     let c : allb (usedGood latest) u ≡ true = allb-all (usedGood latest) outside u at in
     let m : length (map reprG (abs gs)) ≡ length (abs gs) = length-map (abs gs) reprG in
     let k : gs .len ≡ length (map reprG (abs gs)) = wf-len gs w ∙ sym m in
-    let s : spareGood zeroGroup ≡ true = ap (λ (x : Bool). x && true) (wfg-good zeroGroup zero-wf) in
-    let z : allb spareGood (drop (gs .len) (gs .groups)) ≡ true = (λ i. allb spareGood (drop (k i) (wf-groups gs w i))) ∙ tail-of-pad spareGood zeroGroup s 4 (map reprG (abs gs)) in
+    let z : allb spareGood (drop (gs .len) (gs .groups)) ≡ true = (λ i. allb spareGood (drop (k i) (wf-groups gs w i))) ∙ tail-of-pad spareGood zeroGroup zero-good 4 (map reprG (abs gs)) in
     sym (rest-good gs latest true true (wf-four gs w) (len-le gs w) (sym (λ i. c i && z i)) refl (sym d))
-  where
-    zero-wf : WfG zeroGroup
-    zero-wf = wf-reprG noGroup zero-le
 
 pub groups-iff : (latest : ℕ) (gs : Groups) → groupsGood latest gs ≡ true ↔ (Wf gs × (allb (groupGood latest) (abs gs) ≡ true) × (distinct sameFirst (abs gs) ≡ true))
 groups-iff latest gs = (good-wf latest gs, λ w. wf-good latest gs (w .0) (w .1) (w .2))

@@ -4,7 +4,7 @@ use mathlib.Core.Path.{_≡_}
 use mathlib.Core.Bool.{Bool, true, false, cond, _&&_, _||_}
 use mathlib.Core.List.{List, [], _∷_, map}
 use mathlib.Core.Option.{Option, none, some}
-use Prim.Native.Nat.{ℕ, zero, suc}
+use Prim.Native.Nat.{ℕ, zero, suc, _+_, _%_}
 use lib.Dec.{leb, eqb}
 use lib.ListN.{length, take, drop}
 use Rattle.lists.specs.Pad.{pad, allb}
@@ -144,6 +144,15 @@ unfoldable pub placesGood : List ℕ → List ℕ → Bool
 placesGood [] hs = true
 placesGood (m ∷ ms) [] = true
 placesGood (m ∷ ms) (h ∷ hs) = placeGood m h && placesGood ms hs
+
+-- how many are odd
+unfoldable pub odds : List ℕ → ℕ
+odds [] = 0
+odds (m ∷ ms) = m % 2 + odds ms
+
+-- a group by its parts: its marks and handles, its first number, how many places it has and how many are filled, its last update
+abbrev pub groupOf : List ℕ → List ℕ → ℕ → ℕ → ℕ → ℕ → Fragments
+groupOf ms hs first len count updated = record { updated = updated; first = first; len = len; count = count; marks = ms; handles = hs }
 
 abbrev pub sized : Fragments → Bool
 sized g = eqb (length (g .marks)) 32 && eqb (length (g .handles)) 32

@@ -3,14 +3,14 @@ use bundles::Bundles;
 use packet::Packet;
 use seq::Seq;
 ghost use mathlib.Core.Path.{_≡_};
-ghost use mathlib.Core.Bool.{true, false, cond, _&&_};
+ghost use mathlib.Core.Bool.{true, false, _&&_};
 ghost use mathlib.Core.List.{[], _∷_, _++_};
 ghost use mathlib.Core.Option.{none, some};
 ghost use Prim.Native.Nat.{suc, _≤_, _<_};
 ghost use lib.Dec.{leb};
 ghost use lib.ListN.{length, take, drop, set};
 ghost use Rattle.lists.specs.Pad.{pad, removeAt, allb};
-ghost use Rattle.lists.specs.Find.{has, position, sum};
+ghost use Rattle.lists.specs.Find.{has, position};
 ghost use Rattle.model.specs.Group.{newGroup, store, stale, full, isBeyond, isFirst, inPlaces, span};
 ghost use Rattle.model.specs.Rust.{holdsGroup};
 ghost use Rattle.bundles.specs.Bundles as B;
@@ -416,63 +416,97 @@ fn places_good(ms: [u32; 32], hs: [u32; 32], n: u32) -> bool
     good
 }
 
-// In a u64, so that no marks are too large for their sum.
-fn sum_of(ms: [u32; 32]) -> u64
-    ensures { λ r. ⌜ r ≡ sum ms ⌝ }
+// How many marks are odd: where each is 1 or 0 it is their sum, and no marks are too large for a u32.
+fn odd_of(ms: [u32; 32]) -> u32
+    ensures { λ r. ⌜ r ≡ Spec.odds ms ⌝ }
 {
-    let mut s: u64 = 0;
+    let mut s: u32 = 0;
     let mut i: usize = 0;
     while i < 32 {
-        s += ms[i] as u64;
+        s += ms[i] & 1;
         i += 1;
     }
     s
 }
 
-// Whether g is the one form of its group.
-fn fragments_good(g: Fragments) -> bool
-    ensures { λ r. ⌜ r ≡ Spec.fragmentsGood g ⌝ }
+// All marks and handles of a group are 0.
+fn places_zero(ms: [u32; 32], hs: [u32; 32]) -> bool
+    ensures { λ r. ⌜ r ≡ (allb B.isZero ms && allb B.isZero hs) ⌝ }
 {
-    let n = g.len;
-    if 32 < n {
-        return false;
+    let mut clear = true;
+    let mut i: usize = 0;
+    while i < 32 {
+        let m = ms[i];
+        let h = hs[i];
+        clear = clear & (m == 0) & (h == 0);
+        i += 1;
     }
-    let ms = g.marks;
-    let hs = g.handles;
-    if !places_good(ms, hs, n) {
-        return false;
-    }
-    sum_of(ms) == g.count as u64
+    clear
 }
 
-// A group in use, or an unused one.
-fn place_good(g: Fragments, used: bool, latest: u64) -> bool
-    ensures { λ r. ⌜ r ≡ cond used (Spec.usedGood latest g) (Spec.spareGood g) ⌝ }
+// A group in use, by its parts: handed whole it is copied.
+fn used_good(
+    ms: [u32; 32],
+    hs: [u32; 32],
+    first: u32,
+    len: u32,
+    count: u32,
+    updated: u64,
+    latest: u64,
+) -> bool
+    ensures { λ r. ⌜ r ≡ Spec.usedGood latest (Spec.groupOf ms hs first len count updated) ⌝ }
 {
-    if !fragments_good(g) {
-        return false;
-    }
-    if used {
-        let legal = seq::legal(g.first);
-        return legal & (g.updated <= latest);
-    }
-    (g.first == 0) & (g.updated == 0) & (g.len == 0)
+    let places = places_good(ms, hs, len);
+    let odd = odd_of(ms);
+    let legal = seq::legal(first);
+    (len <= 32) & places & (odd == count) & legal & (updated <= latest)
 }
 
-// Each group in its place.
+// An unused group, by its parts.
+fn spare_good(ms: [u32; 32], hs: [u32; 32], first: u32, len: u32, count: u32, updated: u64) -> bool
+    ensures { λ r. ⌜ r ≡ Spec.spareGood (Spec.groupOf ms hs first len count updated) ⌝ }
+{
+    let zero = places_zero(ms, hs);
+    zero & (first == 0) & (len == 0) & (count == 0) & (updated == 0)
+}
+
+// Each group in its place, by literal indices: in a loop each is copied.
 fn each_good(gs: [Fragments; 4], n: u32, latest: u64) -> bool
     ensures { λ r. ⌜ r ≡ (allb (Spec.usedGood latest) (take n gs) && allb Spec.spareGood (drop n gs)) ⌝ }
 {
-    let k = n as usize;
-    let mut i: usize = 0;
-    while i < 4 {
-        let g = gs[i];
-        if !place_good(g, i < k, latest) {
-            return false;
-        }
-        i += 1;
-    }
-    true
+    let a = gs[0];
+    let am = a.marks;
+    let ah = a.handles;
+    let one = if 0 < n {
+        used_good(am, ah, a.first, a.len, a.count, a.updated, latest)
+    } else {
+        spare_good(am, ah, a.first, a.len, a.count, a.updated)
+    };
+    let b = gs[1];
+    let bm = b.marks;
+    let bh = b.handles;
+    let two = if 1 < n {
+        used_good(bm, bh, b.first, b.len, b.count, b.updated, latest)
+    } else {
+        spare_good(bm, bh, b.first, b.len, b.count, b.updated)
+    };
+    let c = gs[2];
+    let cm = c.marks;
+    let ch = c.handles;
+    let three = if 2 < n {
+        used_good(cm, ch, c.first, c.len, c.count, c.updated, latest)
+    } else {
+        spare_good(cm, ch, c.first, c.len, c.count, c.updated)
+    };
+    let d = gs[3];
+    let dm = d.marks;
+    let dh = d.handles;
+    let four = if 3 < n {
+        used_good(dm, dh, d.first, d.len, d.count, d.updated, latest)
+    } else {
+        spare_good(dm, dh, d.first, d.len, d.count, d.updated)
+    };
+    one & two & three & four
 }
 
 // "keys distinct": the first numbers of the groups.
