@@ -8,7 +8,7 @@ use Rattle.packet.specs.Data.{isSet}
 use Rattle.calls.proofs.Called.{on-limit, off-limit, tested, key-tested}
 use Rattle.forward.proofs.Places.{ons-length, offs-length}
 use Rattle.forward.proofs.Out.{out-on-full, out-off-full, out-on-requires, out-off-requires, out-on-over, out-on-granted, out-off-over, out-off-rejected, out-off-granted, record-tested, out-unformed, out-bad, out-before, out-found}
-use Rattle.forward.proofs.Find.{find-on-full, find-off-full, find-on-made, find-off-made, channel-unformed, channel-malformed, channel-found}
+use Rattle.forward.proofs.Find.{place-unformed, place-malformed, place-on-full, place-off-full, place-on, place-off, exit-refused, exit-on-made, exit-on-there, exit-off-made, exit-off-there, on-few, off-few}
 
 pub flagged-yes : (flag value : ℕ) → flag ≡ 1 → value ≡ cond (isSet flag) value 0
 flagged-yes flag value h = rw (eq-eqb flag 1 h)
@@ -23,6 +23,6 @@ module _ {A : Type 0} where
   pub taken-new : (there : Bool) (c d e : A) → there ≡ false → e ≡ d → e ≡ cond there c d
   taken-new there c d e h q = rw h q
 
-pub ruleset steps = (flagged-yes, flagged-no, taken-there, taken-new, on-limit, off-limit, ons-length, offs-length, find-on-full, find-off-full, find-on-made, find-off-made, tested, key-tested, channel-unformed, channel-malformed, channel-found, needs)
+pub ruleset steps = (flagged-yes, flagged-no, taken-there, taken-new, on-limit, off-limit, ons-length, offs-length, place-unformed, place-malformed, place-on-full, place-off-full, place-on, place-off, exit-refused, exit-on-made, exit-on-there, exit-off-made, exit-off-there, on-few, off-few, tested, key-tested, needs)
 
 pub ruleset sends = (on-limit, off-limit, ons-length, offs-length, out-on-full, out-off-full, out-on-requires, out-off-requires, out-on-over, out-on-granted, out-off-over, out-off-rejected, out-off-granted, tested, record-tested, out-unformed, out-bad, out-before, out-found, needs)

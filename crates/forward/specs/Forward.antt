@@ -1,17 +1,30 @@
 -- The calls of this crate past refusal 1, and the parts that their code has.
-use Prim.Native.Nat.{ℕ}
+use mathlib.Core.Path.{_≡_}
+use mathlib.Core.Bool.{true}
+use Prim.Native.Nat.{ℕ, _<_}
 use Rattle.packet.specs.declared.Record.{Record}
 use Rattle.packet.specs.declared.Key.{Key}
+use Rattle.packet.specs.declared.View.{View}
+use Rattle.packet.specs.Data.{keyIndex, keyMade}
 use Rattle.model.specs.Port.{channelS, acceptOutS}
 use Rattle.table.specs.declared.Table.{Table}
-use Rattle.table.specs.Table.{abs}
+use Rattle.table.specs.Table.{abs, wfb}
 use Rattle.calls.specs.declared.Found.{Found}
 use Rattle.calls.specs.Answers.{noView}
-use Rattle.calls.specs.Calls.{tableReply, foundOf}
+use Rattle.calls.specs.Places.{placeOn, placeOff}
+use Rattle.calls.specs.Calls.{tableReply, foundOf, channelOf}
+use Rattle.forward.specs.declared.Place.{Place}
 
 -- the key of an off-channel
 abbrev pub offKey : ℕ → Key
 offKey a = record { address = a; on = 0; indexed = 0; index = 0 }
+
+-- the views of the two kinds of channel
+abbrev pub onSeen : ℕ → ℕ → ℕ → ℕ → View
+onSeen a i v e = record { on = 1; address = a; index = i; version = v; expected = e }
+
+abbrev pub offSeen : ℕ → View
+offSeen a = record { on = 0; address = a; index = 0; version = 0; expected = 0 }
 
 -- a refusal's answer, with the table that it leaves
 abbrev pub refusedBy : Table → ℕ → Found
@@ -23,3 +36,13 @@ foundIn t k = foundOf (tableReply (channelS k (abs t)))
 
 unfoldable pub outIn : Table → ℕ → ℕ → Record → Found
 outIn t time a r = foundOf (tableReply (acceptOutS time a r (abs t)))
+
+-- find or create, before anything is made: a refusal with the table as it was, or the place of the key's channel
+pub record Placed (t : Table) (k : Key) (y : Place) : Type 0 where
+  pub refused : (y .code ≡ 0 → ⊥) → refusedBy t (y .code) ≡ channelOf t k
+  pub formed : y .code ≡ 0 → wfb t ≡ true
+  pub made : y .code ≡ 0 → keyMade k ≡ true
+  pub on-at : y .code ≡ 0 → k .on ≡ 1 → y .at ≡ placeOn (k .address) (keyIndex k) (abs t)
+  pub on-room : y .code ≡ 0 → k .on ≡ 1 → y .at < 8
+  pub off-at : y .code ≡ 0 → (k .on ≡ 1 → ⊥) → y .at ≡ placeOff (k .address) (abs t)
+  pub off-room : y .code ≡ 0 → (k .on ≡ 1 → ⊥) → y .at < 4

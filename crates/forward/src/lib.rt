@@ -13,8 +13,15 @@ ghost use Rattle.packet.specs.Data.{isSet, wellMade, keyMade};
 ghost use Rattle.model.specs.State as model;
 ghost use Rattle.channel.specs.Channel.{reprOff, reprOn};
 ghost use Rattle.table.specs.Table.{Wf};
+ghost use Rattle.calls.specs.Answers.{noView};
 ghost use Rattle.calls.specs.Calls.{channelOf, acceptedOut};
-ghost use Rattle.forward.specs.Forward.{offKey, refusedBy, foundIn, outIn};
+ghost use Rattle.forward.specs.Forward.{Placed, onSeen, offSeen, offKey, refusedBy, outIn};
+
+// A refusal's number or 0, and the place of the channel where it is 0.
+struct Place {
+    code: u32,
+    at: usize,
+}
 
 // A refusal's answer: its number, and no channel.
 fn refused(t: Table, code: u32) -> Found
@@ -31,6 +38,45 @@ fn refused(t: Table, code: u32) -> Found
         table: t,
         code,
         view: v,
+    }
+}
+
+// ---- the views, from their numbers: a channel need not be moved to be answered
+
+// A refusal answers no channel.
+fn no_view() -> View
+    ensures { λ v. ⌜ v ≡ noView ⌝ }
+{
+    View {
+        on: 0,
+        address: 0,
+        index: 0,
+        version: 0,
+        expected: 0,
+    }
+}
+
+fn on_view(address: u32, index: u32, version: u32, expected: u32) -> View
+    ensures { λ v. ⌜ v ≡ onSeen address index version expected ⌝ }
+{
+    View {
+        on: 1,
+        address,
+        index,
+        version,
+        expected,
+    }
+}
+
+fn off_view(address: u32) -> View
+    ensures { λ v. ⌜ v ≡ offSeen address ⌝ }
+{
+    View {
+        on: 0,
+        address,
+        index: 0,
+        version: 0,
+        expected: 0,
     }
 }
 
@@ -78,72 +124,70 @@ fn off_or_new(c: OffChannel, there: bool, address: u32) -> OffChannel
 
 // ---- find or create
 
-// "a created index gets version 1"
-fn find_on(t: Table, k: Key) -> Found
-    requires { ⌜ Wf t ⌝ }
-    requires { ⌜ keyMade k ≡ true ⌝ }
-    requires { ⌜ k .on ≡ 1 ⌝ }
-    ensures { λ f. ⌜ f ≡ foundIn t k ⌝ }
+// The place of the key's channel, or the refusal: the table comes back from one exit alone, so that it is moved as seldom as can be.
+fn placed(t: Table, k: Key) -> Place
+    ensures { λ y. ⌜ Placed t k y ⌝ }
 {
-    let index = calls::index_of(k);
-    let version = if_flagged(k.indexed, 1);
-    let at = calls::on_place(t, k.address, index);
-    if 8 <= at {
-        return refused(t, 4);
+    if !table::well_formed(t) {
+        return Place { code: 1, at: 0 };
     }
-    let there = at < t.oncount as usize;
-    let c = t.ons[at];
-    let d = on_or_new(c, there, k.address, index, version);
-    let v = channel::on_view(d);
-    let n = counted(t.oncount, there);
-    let mut u = t;
-    u.ons[at] = d;
-    u.oncount = n;
-    Found {
-        table: u,
-        code: 0,
-        view: v,
+    if !k.well_made() {
+        return Place { code: 2, at: 0 };
     }
-}
-
-fn find_off(t: Table, k: Key) -> Found
-    requires { ⌜ Wf t ⌝ }
-    requires { ⌜ keyMade k ≡ true ⌝ }
-    requires { ⌜ (k .on ≡ 1 → ⊥) ⌝ }
-    ensures { λ f. ⌜ f ≡ foundIn t k ⌝ }
-{
+    if k.on == 1 {
+        let index = calls::index_of(k);
+        let at = calls::on_place(t, k.address, index);
+        if 8 <= at {
+            return Place { code: 4, at: 0 };
+        }
+        return Place { code: 0, at };
+    }
     let at = calls::off_place(t, k.address);
     if 4 <= at {
-        return refused(t, 4);
+        return Place { code: 4, at: 0 };
     }
-    let there = at < t.offcount as usize;
-    let c = t.offs[at];
-    let d = off_or_new(c, there, k.address);
-    let v = channel::off_view(d);
-    let n = counted(t.offcount, there);
-    let mut u = t;
-    u.offs[at] = d;
-    u.offcount = n;
-    Found {
-        table: u,
-        code: 0,
-        view: v,
-    }
+    Place { code: 0, at }
 }
 
+// "a created index gets version 1"; a channel that is there stays as it is.
 pub fn channel(t: Table, k: Key) -> Found
     ensures { λ f. ⌜ f ≡ channelOf t k ⌝ }
 {
-    if !table::well_formed(t) {
-        return refused(t, 1);
+    let y = placed(t, k);
+    let at = y.at;
+    let mut v = no_view();
+    let mut u = t;
+    if y.code == 0 {
+        if k.on == 1 {
+            if u.oncount as usize <= at {
+                let index = calls::index_of(k);
+                let version = if_flagged(k.indexed, 1);
+                v = on_view(k.address, index, version, 0);
+                let d = OnChannel::new(k.address, index, version);
+                u.ons[at] = d;
+                u.oncount = u.oncount + 1;
+            } else {
+                v = on_view(
+                    u.ons[at].address,
+                    u.ons[at].index,
+                    u.ons[at].version,
+                    u.ons[at].expected,
+                );
+            }
+        } else {
+            v = off_view(k.address);
+            if u.offcount as usize <= at {
+                let d = OffChannel::new(k.address);
+                u.offs[at] = d;
+                u.offcount = u.offcount + 1;
+            }
+        }
     }
-    if !k.well_made() {
-        return refused(t, 2);
+    Found {
+        table: u,
+        code: y.code,
+        view: v,
     }
-    if k.on == 1 {
-        return find_on(t, k);
-    }
-    find_off(t, k)
 }
 
 pub fn off_channel(t: Table, address: u32) -> Found
