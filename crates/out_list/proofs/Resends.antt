@@ -1,26 +1,29 @@
 -- Resends: which entries are young and due, and the loops over them. Assumes nothing.
 use mathlib.Core.Path.{_≡_, refl, sym, ap, _∙_}
 use mathlib.Core.List.{List, [], _∷_, _++_, map}
-use mathlib.Core.Bool.{Bool, true, false, _&&_}
-use Prim.Native.Nat.{ℕ, _+_, _-_, _≤_, _<_}
+use mathlib.Core.Bool.{Bool, true, false, not, cond, _&&_, _||_, and-true, and-false}
+use Prim.Native.Nat.{ℕ, zero, suc, _+_, _-_, _≤_, _<_}
 use native.Mathlib.Omega.{arith}
+use native.Mathlib.Nat.{le-of-suc-le-suc, not-suc-le-zero}
 use borrow.Author.Needs.{needs}
 use lib.Dec.{ltb, leb, eqb}
 use lib.ListN.{length, getD, set, take, drop, length-take, length-map, length-append, length-set, drop-of-length-le}
 use lib.Seq.{take-all}
-use Rattle.lists.specs.Pad.{pad}
+use Rattle.lists.specs.Pad.{pad, allb}
 use Rattle.lists.specs.Find.{has, keepBy, writtenAt}
+use Rattle.lists.proofs.Pad.{length-pad, set-pad, length-of-map}
+use Rattle.lists.proofs.Tests.{allb-all}
 use Rattle.lists.proofs.Find.{length-keep, keep-keep}
 use Rattle.lists.proofs.Positions.{drop-more}
-use Rattle.lists.proofs.Looking.{keep-yes, keep-no, Asking, asking-start, asking-hit, asking-step, asking-end}
+use Rattle.lists.proofs.Looking.{Testing, testing-start, testing-end, keep-yes, keep-no, Asking, asking-start, asking-hit, asking-step, asking-end}
 use Rattle.lists.proofs.Copies.{Mapping, mapping-start, mapping-step, mapping-end, Writing, writing-start, writing-step, writing-end}
 use Rattle.packet.specs.declared.OutEntry.{OutEntry}
 use Rattle.packet.specs.Data.{noEntry}
 use Rattle.model.specs.Rust.{young, due, mark}
 use Rattle.model.specs.Calls.{flat}
 use Rattle.out_list.specs.declared.OutList.{OutList}
-use Rattle.out_list.specs.Out.{abs, repr, Wf, dueRows}
-use Rattle.out_list.proofs.Form.{wf-entries, wf-len, wf-length, wf-len-le, abs-of, wf-of, len-of}
+use Rattle.out_list.specs.Out.{abs, repr, Wf, dueRows, calm}
+use Rattle.out_list.proofs.Form.{wf-entries, wf-len, wf-length, wf-len-le, wf-le}
 
 -- ---- one entry
 
@@ -41,51 +44,62 @@ mark-no e t timeout b p q = rw (sym p ∙ q)
 
 pub ruleset one-entry = (young-is, due-is, both-is, mark-yes, mark-no, needs)
 
--- ---- drop_given_up: a new list of those kept so far
+-- ---- drop_given_up: a new list of those kept so far, whose count is set at the end
 
-pub record Keeping (o : OutList) (f : OutEntry → Bool) (r : OutList) (i : ℕ) : Type 0 where
+pub record Keeping (o : OutList) (f : OutEntry → Bool) (r : OutList) (k i : ℕ) : Type 0 where
   pub below : i ≤ o .len
   pub room : o .len ≤ 32
   pub size : length (o .entries) ≡ 32
-  pub done : r ≡ repr (keepBy f (take i (abs o)))
+  pub few : k ≤ i
+  pub places : length (r .entries) ≡ 32
+  pub count : k ≡ length (keepBy f (take i (abs o)))
+  pub done : r .entries ≡ pad 32 noEntry (keepBy f (take i (abs o)))
 
-pub keep-start : (o : OutList) (f : OutEntry → Bool) (r : OutList) → Wf o → r ≡ repr [] → Keeping o f r 0
+pub keep-start : (o : OutList) (f : OutEntry → Bool) (r : OutList) → Wf o → r ≡ repr [] → Keeping o f r 0 0
 unfolding keepBy
-keep-start o f r w q = record { below = omega arith; room = wf-len-le o w; size = wf-length o w; done = q }
+keep-start o f r w q =
+    let e : r .entries ≡ pad 32 noEntry [] = ap (λ (p : OutList). p .entries) q in
+    record { below = omega arith; room = wf-len-le o w; size = wf-length o w; few = omega arith; places = ap length e ∙ length-pad 32 noEntry []; count = refl; done = e }
 
-module _ (o : OutList) (f : OutEntry → Bool) (r : OutList) (i : ℕ) (k : Keeping o f r i) where
-  few : length (keepBy f (take i (abs o))) ≤ i
-  few = omega (arith, length-keep f (take i (abs o)), length-take i (abs o))
-
-  pub keep-form : Wf r
-  keep-form = wf-of r (keepBy f (take i (abs o))) (k .done) (omega (arith, few, k .below, k .room))
-
-  pub keep-room : i < o .len → r .len < 32
-  keep-room h = omega (arith, few, len-of r (keepBy f (take i (abs o))) (k .done) (omega (arith, few, k .below, k .room)), k .room)
-
-  pub keep-take : (s t : OutList) (b : Bool) → i < o .len → b ≡ f (getD (o .entries) i noEntry) → b ≡ true → s ≡ repr (abs r ++ getD (o .entries) i noEntry ∷ []) → t ≡ s → Keeping o f t (i + 1)
-  keep-take s t b h p q e a =
-      let same : abs r ≡ keepBy f (take i (abs o)) = abs-of r (keepBy f (take i (abs o))) (k .done) (omega (arith, few, k .below, k .room)) in
+module _ (o : OutList) (f : OutEntry → Bool) (r : OutList) (k i : ℕ) (s : Keeping o f r k i) where
+  pub keep-take : (t : OutList) (m : ℕ) (b : Bool) → i < o .len → b ≡ f (getD (o .entries) i noEntry) → b ≡ true
+      → t ≡ record { len = r .len; entries = set (r .entries) k (getD (o .entries) i noEntry) } → m ≡ k + 1 → Keeping o f t m (i + 1)
+  keep-take t m b h p q e a =
+      let x = getD (o .entries) i noEntry in
+      let xs = keepBy f (take i (abs o)) in
+      let more : xs ++ x ∷ [] ≡ keepBy f (take (i + 1) (abs o)) = keep-yes f (o .len) (o .entries) i noEntry h (omega (arith, s .size, s .room)) (sym p ∙ q) in
+      let u : t .entries ≡ set (r .entries) k x = ap (λ (p : OutList). p .entries) e in
+      let v : set (r .entries) k x ≡ pad 32 noEntry (xs ++ x ∷ []) = (λ j. set (s .done j) (s .count j) x) ∙ set-pad 32 noEntry xs x (omega (arith, s .count, s .few, s .room)) in
       record {
         below = omega arith;
-        room = k .room;
-        size = k .size;
-        done = a ∙ e ∙ ap (λ (es : List OutEntry). repr (es ++ getD (o .entries) i noEntry ∷ [])) same ∙ ap repr (keep-yes f (o .len) (o .entries) i noEntry h (omega (arith, k .size, k .room)) (sym p ∙ q));
+        room = s .room;
+        size = s .size;
+        few = omega (arith, s .few);
+        places = ap length u ∙ length-set (r .entries) k x ∙ s .places;
+        count = omega (arith, s .count, length-append xs (x ∷ []), ap length more);
+        done = u ∙ v ∙ ap (λ (es : List OutEntry). pad 32 noEntry es) more;
       }
 
-  pub keep-leave : (t : OutList) (b : Bool) → i < o .len → b ≡ f (getD (o .entries) i noEntry) → b ≡ false → t ≡ r → Keeping o f t (i + 1)
-  keep-leave t b h p q a =
+  pub keep-leave : (t : OutList) (m : ℕ) (b : Bool) → i < o .len → b ≡ f (getD (o .entries) i noEntry) → b ≡ false → t ≡ r → m ≡ k → Keeping o f t m (i + 1)
+  keep-leave t m b h p q e a =
+      let same = keep-no f (o .len) (o .entries) i noEntry h (omega (arith, s .size, s .room)) (sym p ∙ q) in
+      let u : t .entries ≡ r .entries = ap (λ (p : OutList). p .entries) e in
       record {
         below = omega arith;
-        room = k .room;
-        size = k .size;
-        done = a ∙ k .done ∙ ap repr (keep-no f (o .len) (o .entries) i noEntry h (omega (arith, k .size, k .room)) (sym p ∙ q));
+        room = s .room;
+        size = s .size;
+        few = omega (arith, s .few);
+        places = ap length u ∙ s .places;
+        count = a ∙ s .count ∙ ap length same;
+        done = u ∙ s .done ∙ ap (λ (es : List OutEntry). pad 32 noEntry es) same;
       }
 
-  pub keep-end : o .len ≤ i → r ≡ repr (keepBy f (abs o))
-  keep-end h = k .done ∙ ap (λ (es : List OutEntry). repr (keepBy f es)) (take-all i (abs o) (omega (arith, length-take (o .len) (o .entries))))
+  pub keep-end : o .len ≤ i → _≡_ {A = OutList} (record { len = k; entries = r .entries }) (repr (keepBy f (abs o)))
+  keep-end h =
+      (λ j. record { len = s .count j; entries = s .done j })
+      ∙ ap (λ (es : List OutEntry). repr (keepBy f es)) (take-all i (abs o) (omega (arith, length-take (o .len) (o .entries))))
 
-pub ruleset keeping = (keep-start, keep-form, keep-room, keep-end, needs)
+pub ruleset keeping = (keep-start, keep-end, needs)
 
 -- ---- mark_due
 
@@ -150,14 +164,53 @@ module _ (o : OutList) (f : OutEntry → Bool) (count i : ℕ) (k : Counting o f
 abbrev pub dueYoung : ℕ → ℕ → ℕ → OutEntry → Bool
 dueYoung t timeout giveUp e = young t giveUp e && due t timeout e
 
-pub young-end : (o : OutList) (t timeout giveUp count i : ℕ) → Counting o (dueYoung t timeout giveUp) count i → o .len ≤ i → count ≡ length (keepBy (due t timeout) (keepBy (young t giveUp) (abs o)))
-young-end o t timeout giveUp count i k h =
-    count-end o (dueYoung t timeout giveUp) count i k h
-    ∙ ap length (sym (keep-keep (due t timeout) (young t giveUp) (dueYoung t timeout giveUp) (λ e. refl) (abs o)))
+-- all 32 places as a list: those past the count are neither young nor due
+abbrev pub whole : OutList → OutList
+whole o = record { len = 32; entries = o .entries }
+
+pub young-start : (o : OutList) (f : OutEntry → Bool) → Wf o → Counting (whole o) f 0 0
+unfolding keepBy
+young-start o f w = record { below = omega arith; room = omega arith; size = wf-length o w; few = omega arith; so = refl }
+
+keep-past : (f : OutEntry → Bool) → f noEntry ≡ false → (n : ℕ) (xs : List OutEntry) → length xs ≤ n → keepBy f (pad n noEntry xs) ≡ keepBy f xs
+unfolding keepBy pad
+keep-past f q zero [] h = refl
+keep-past f q zero (x ∷ xs) h = absurd (not-suc-le-zero h)
+keep-past f q (suc n) [] h = rw q (keep-past f q n [] (omega arith))
+keep-past f q (suc n) (x ∷ xs) h =
+    ap (λ (r : List OutEntry). cond (f x) (x ∷ r) r) (keep-past f q n xs (le-of-suc-le-suc h))
+
+pub young-end : (o : OutList) (t timeout giveUp count i : ℕ) → Wf o → Counting (whole o) (dueYoung t timeout giveUp) count i → 32 ≤ i → count ≡ length (keepBy (due t timeout) (keepBy (young t giveUp) (abs o)))
+young-end o t timeout giveUp count i w k h =
+    let f = dueYoung t timeout giveUp in
+    count-end (whole o) f count i k h
+    ∙ ap (λ (es : List OutEntry). length (keepBy f es)) (take-all 32 (o .entries) (omega (arith, wf-length o w)) ∙ wf-entries o w)
+    ∙ ap length (keep-past f (and-false (young t giveUp noEntry)) 32 (abs o) (wf-le o w))
+    ∙ ap length (sym (keep-keep (due t timeout) (young t giveUp) f (λ e. refl) (abs o)))
 
 pub ruleset counting = (count-start, count-end, needs)
 
-pub ruleset counting-young = (count-start, young-end, needs)
+pub ruleset counting-young = (young-start, young-end, needs)
+
+-- ---- quiet
+
+pub stays-is : (e : OutEntry) (u : Bool) (t timeout giveUp : ℕ) (a b : Bool) → a ≡ young t giveUp e → b ≡ due t timeout e → (not u || a && not b) ≡ cond u (calm t timeout giveUp e) true
+unfolding calm
+stays-is e true t timeout giveUp a b p q = λ j. p j && not (q j)
+stays-is e false t timeout giveUp a b p q = refl
+
+-- nothing is asked of a place that is not used
+abbrev pub any : OutEntry → Bool
+any e = true
+
+pub quiet-end : (o : OutList) (f : OutEntry → Bool) (good : Bool) (i : ℕ) → Testing f any 32 (o .len) (o .entries) good i → 32 ≤ i → good ≡ allb f (abs o)
+quiet-end o f good i t h =
+    let d = drop (o .len) (o .entries) in
+    testing-end f any 32 (o .len) (o .entries) good i t h
+    ∙ ap (λ (b : Bool). allb f (abs o) && b) (allb-all any noEntry d (λ j k. refl))
+    ∙ and-true (allb f (abs o))
+
+pub ruleset quieting = (testing-start, quiet-end, length-of-map, needs)
 
 -- ---- write_due
 

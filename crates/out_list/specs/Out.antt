@@ -1,7 +1,7 @@
 -- The list that an OutList stands for, and the test whether a value stands for one.
 use mathlib.Core.Path.{_≡_}
 use mathlib.Core.List.{List, map}
-use mathlib.Core.Bool.{Bool, _&&_, _||_}
+use mathlib.Core.Bool.{Bool, not, _&&_, _||_}
 use Prim.Native.Nat.{ℕ}
 use lib.ListN.{length, take, drop}
 use lib.Dec.{leb, eqb}
@@ -12,7 +12,7 @@ use Rattle.packet.specs.declared.OutEntry.{OutEntry}
 use Rattle.packet.specs.declared.Place.{Place}
 use Rattle.packet.specs.Data.{noEntry, isSet, isFlag}
 use Rattle.model.specs.Acks as acks
-use Rattle.model.specs.Rust.{due, row}
+use Rattle.model.specs.Rust.{young, due, row}
 use Rattle.model.specs.Calls.{flat}
 use Rattle.model.specs.Wellformed.{entryGood}
 use Rattle.out_list.specs.declared.OutList.{OutList}
@@ -36,6 +36,10 @@ placeOf n es = acks.search acks.entryNumber noEntry n es (length es)
 -- the rows of the entries that are due: address and handle of each
 abbrev pub dueRows : ℕ → ℕ → ℕ → List OutEntry → List ℕ
 dueRows address t timeout es = flat (map (row address) (keepBy (due t timeout) es))
+
+-- neither given up nor due, so that a resend leaves the entry as it is
+unfoldable pub calm : ℕ → ℕ → ℕ → OutEntry → Bool
+calm t timeout giveUp e = young t giveUp e && not (due t timeout e)
 
 -- ---- the test. An entry's fields by their width: entryGood is wordsGood and timesGood, an unused place has noWords and noTimes
 

@@ -5,7 +5,7 @@ use seq::Order;
 use seq::Seq;
 ghost use mathlib.Core.Path.{_≡_};
 ghost use mathlib.Core.List.{[], _∷_, _++_, map};
-ghost use mathlib.Core.Bool.{cond, _&&_};
+ghost use mathlib.Core.Bool.{true, cond, _&&_};
 ghost use Prim.Native.Nat.{_+_, _-_, _≤_, _<_};
 ghost use lib.Dec.{leb};
 ghost use lib.ListN.{length, take, drop};
@@ -14,7 +14,7 @@ ghost use Rattle.lists.specs.Find.{slotOf, has, keepBy, writtenAt};
 ghost use Rattle.seq.specs.Num.{cmp};
 ghost use Rattle.model.specs.Acks.{isGreater, hasNumber, ackSingle, ackSingles, ackCumulative, insertOut};
 ghost use Rattle.model.specs.Rust as Rust;
-ghost use Rattle.out_list.specs.Out.{abs, repr, Wf, placeOf, dueRows, wordsGood, noWords, timesGood, noTimes, outGood};
+ghost use Rattle.out_list.specs.Out.{abs, repr, Wf, placeOf, dueRows, calm, wordsGood, noWords, timesGood, noTimes, outGood};
 
 #[repr(C)]
 pub struct OutList {
@@ -261,14 +261,17 @@ pub fn drop_given_up(o: OutList, time: u64, give_up: u64) -> OutList
 {
     let n = o.len as usize;
     let mut r = OutList::new();
+    let mut k: usize = 0;
     let mut i: usize = 0;
     while i < n {
         let e = o.entries[i];
         if young(e, time, give_up) {
-            r = add_out_reliable_packet(r, e);
+            r.entries[k] = e;
+            k += 1;
         }
         i += 1;
     }
+    r.len = k as u32;
     r
 }
 
@@ -307,15 +310,15 @@ pub fn count_due(o: OutList, time: u64, timeout: u64) -> u32
     count
 }
 
-// How many will be due once those given up are dropped: a call that lacks room for its rows changes nothing, so it counts first.
+// How many will be due once those given up are dropped: a call that lacks room for its rows changes nothing, so it counts first. All
+// places are counted, since none past the count has a handle.
 pub fn count_due_young(o: OutList, time: u64, timeout: u64, give_up: u64) -> u32
     requires { ⌜ Wf o ⌝ }
     ensures { λ r. ⌜ r ≡ length (keepBy (Rust.due time timeout) (keepBy (Rust.young time «give_up») (abs o))) ⌝ }
 {
-    let n = o.len as usize;
     let mut count: u32 = 0;
     let mut i: usize = 0;
-    while i < n {
+    while i < 32 {
         let e = o.entries[i];
         if due_young(e, time, timeout, give_up) {
             count += 1;
@@ -323,6 +326,28 @@ pub fn count_due_young(o: OutList, time: u64, timeout: u64, give_up: u64) -> u32
         i += 1;
     }
     count
+}
+
+// Whether an entry is neither given up nor due, which a place that is not used is not either.
+fn stays(e: OutEntry, used: bool, time: u64, timeout: u64, give_up: u64) -> bool
+    ensures { λ r. ⌜ r ≡ cond used (calm time timeout «give_up» e) true ⌝ }
+{
+    !used | (young(e, time, give_up) & !due(e, time, timeout))
+}
+
+// Whether a resend leaves the list as it is and has no row of it.
+pub fn quiet(o: OutList, time: u64, timeout: u64, give_up: u64) -> bool
+    ensures { λ r. ⌜ r ≡ allb (calm time timeout «give_up») (abs o) ⌝ }
+{
+    let n = o.len as usize;
+    let mut good = true;
+    let mut i: usize = 0;
+    while i < 32 {
+        let e = o.entries[i];
+        good = good & stays(e, i < n, time, timeout, give_up);
+        i += 1;
+    }
+    good
 }
 
 // "list, as address and handle, those with a handle whose time since last sent is at least the timeout"

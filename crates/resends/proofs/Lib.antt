@@ -3,3 +3,4 @@ pub mod Loops
 pub mod Channels
 pub mod Sides
 pub mod Door
+pub mod Calm

@@ -40,11 +40,11 @@ unfolding listSent
 off-sent t timeout giveUp c w = λ j. record { address = c .address; out = listSent t timeout giveUp (c .out); acks = w .acks j; groups = w .groups j; bundles = w .bundles j }
 
 module _ (t timeout giveUp : ℕ) (l : List OffChannel) (n : ℕ) where
-  off-rows : joined (map (rowsOf offKind t timeout giveUp) (take n l)) ≡ offRows t timeout giveUp l n
+  pub off-rows : joined (map (rowsOf offKind t timeout giveUp) (take n l)) ≡ offRows t timeout giveUp l n
   unfolding listRows offRows
   off-rows = ap (λ (r : List (List Resend)). joined r) (sym (map-map (rowsOff t timeout giveUp) absOff (take n l)))
 
-  offs-sent : OffsWf l n → pad 4 zeroOff (map (sentOf offKind t timeout giveUp) (take n l)) ≡ offsSent t timeout giveUp l n
+  pub offs-sent : OffsWf l n → pad 4 zeroOff (map (sentOf offKind t timeout giveUp) (take n l)) ≡ offsSent t timeout giveUp l n
   unfolding offsSent
   offs-sent w =
       let xs = take n l in
@@ -100,11 +100,11 @@ unfolding listSent
 on-sent t timeout giveUp c w = λ j. record { address = c .address; index = c .index; version = c .version; expected = c .expected; source = c .source; out = listSent t timeout giveUp (c .out); acks = w .acks j; groups = w .groups j; bundles = w .bundles j; buffer = w .buffer j; queue = w .queue j }
 
 module _ (t timeout giveUp : ℕ) (l : List OnChannel) (n : ℕ) where
-  on-rows : joined (map (rowsOf onKind t timeout giveUp) (take n l)) ≡ onRows t timeout giveUp l n
+  pub on-rows : joined (map (rowsOf onKind t timeout giveUp) (take n l)) ≡ onRows t timeout giveUp l n
   unfolding listRows onRows
   on-rows = ap (λ (r : List (List Resend)). joined r) (sym (map-map (rowsOn t timeout giveUp) absOn (take n l)))
 
-  ons-sent : OnsWf l n → pad 8 zeroOn (map (sentOf onKind t timeout giveUp) (take n l)) ≡ onsSent t timeout giveUp l n
+  pub ons-sent : OnsWf l n → pad 8 zeroOn (map (sentOf onKind t timeout giveUp) (take n l)) ≡ onsSent t timeout giveUp l n
   unfolding onsSent
   ons-sent w =
       let xs = take n l in

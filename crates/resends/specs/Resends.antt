@@ -1,9 +1,10 @@
 -- What the inner functions count, write and leave.
 use mathlib.Core.Path.{_≡_}
+use mathlib.Core.Bool.{Bool}
 use mathlib.Core.List.{List, map}
 use Prim.Native.Nat.{ℕ, _+_, _≤_, _<_}
 use lib.ListN.{length, take, getD}
-use Rattle.lists.specs.Pad.{pad}
+use Rattle.lists.specs.Pad.{pad, allb}
 use Rattle.lists.specs.Find.{keepBy, joined}
 use Rattle.packet.specs.declared.Resend.{Resend}
 use Rattle.model.specs.Rust.{young, due, mark, row, rowsOff, rowsOn, resentOff, resentOn}
@@ -32,6 +33,17 @@ listSent t timeout giveUp o = out.repr (map (mark t timeout) (keepBy (young t gi
 
 abbrev pub listed : ℕ → ℕ → ℕ → ℕ → OutList → ℕ → Listed
 listed a t timeout giveUp o at = record { out = listSent t timeout giveUp o; next = at + length (flat (listRows a t timeout giveUp o)) }
+
+-- ---- whether a resend leaves a channel as it is, and has no row of it
+
+abbrev pub listCalm : ℕ → ℕ → ℕ → OutList → Bool
+listCalm t timeout giveUp o = allb (out.calm t timeout giveUp) (out.abs o)
+
+unfoldable pub offCalm : ℕ → ℕ → ℕ → OffChannel → Bool
+offCalm t timeout giveUp c = listCalm t timeout giveUp (c .out)
+
+unfoldable pub onCalm : ℕ → ℕ → ℕ → OnChannel → Bool
+onCalm t timeout giveUp c = listCalm t timeout giveUp (c .out)
 
 -- ---- the first n channels of an array: their rows, in order of creation, and the array after it, whose other places stay zero
 

@@ -5,13 +5,16 @@ use channel::OnChannel;
 use out_list::OutList;
 use table::Table;
 ghost use mathlib.Core.Path.{_≡_};
+ghost use mathlib.Core.Bool.{true, _&&_};
 ghost use Prim.Native.Nat.{_+_, _≤_};
 ghost use lib.ListN.{length};
+ghost use Rattle.lists.specs.Pad.{allb};
 ghost use Rattle.lists.specs.Find.{writtenAt};
 ghost use Rattle.model.specs.Calls.{flat};
 ghost use Rattle.out_list.specs.Out as out;
+ghost use Rattle.table.specs.Table.{wfb};
 ghost use Rattle.calls.specs.Calls.{resendsOf, resendsLent};
-ghost use Rattle.resends.specs.Resends.{refusedBy, listRows, listed, offRows, onRows, offsSent, onsSent, OffsWf, OnsWf};
+ghost use Rattle.resends.specs.Resends.{refusedBy, offCalm, onCalm, listRows, listed, offRows, onRows, offsSent, onsSent, OffsWf, OnsWf};
 
 // A channel's out list once its rows are written, and the place after them.
 pub struct Listed {
@@ -28,6 +31,44 @@ fn refused(t: Table, code: u32) -> Resent
         code,
         rows: 0,
     }
+}
+
+// ---- whether the channels stay as they are, as they mostly do: such a call moves none of them
+
+fn offs_quiet(l: [OffChannel; 4], time: u64, timeout: u64, give_up: u64) -> bool
+    ensures { λ r. ⌜ r ≡ allb (offCalm time timeout «give_up») l ⌝ }
+{
+    let mut good = true;
+    let mut i: usize = 0;
+    while i < 4 {
+        let c = l[i];
+        let o = c.out;
+        good = good & out_list::quiet(o, time, timeout, give_up);
+        i += 1;
+    }
+    good
+}
+
+fn ons_quiet(l: [OnChannel; 8], time: u64, timeout: u64, give_up: u64) -> bool
+    ensures { λ r. ⌜ r ≡ allb (onCalm time timeout «give_up») l ⌝ }
+{
+    let mut good = true;
+    let mut i: usize = 0;
+    while i < 8 {
+        let c = l[i];
+        let o = c.out;
+        good = good & out_list::quiet(o, time, timeout, give_up);
+        i += 1;
+    }
+    good
+}
+
+fn quiet(t: Table, time: u64, timeout: u64, give_up: u64) -> bool
+    ensures { λ r. ⌜ r ≡ allb (offCalm time timeout «give_up») (t .offs) && allb (onCalm time timeout «give_up») (t .ons) ⌝ }
+{
+    let a = t.offs;
+    let b = t.ons;
+    offs_quiet(a, time, timeout, give_up) & ons_quiet(b, time, timeout, give_up)
 }
 
 // ---- how many rows the first n channels have, at most 32 each: a list that lacks room for all rows gets none, so they are counted first
@@ -154,16 +195,12 @@ fn resend_ons(
 }
 
 // "Off-channels first, each kind in order of creation". A row is two numbers.
-pub fn take_resends(t: Table, time: u64, timeout: u64, give_up: u64, lent: &mut [u32]) -> Resent
+fn send_again(t: Table, time: u64, timeout: u64, give_up: u64, lent: &mut [u32]) -> Resent
+    requires { ⌜ wfb t ≡ true ⌝ }
+    requires { ⌜ t .latest ≤ time ⌝ }
     ensures { λ r. ⌜ r ≡ resendsOf t time timeout «give_up» (now (lent .entry)) ⌝ }
     ensures { λ r. ⌜ now (lent .exit) ≡ resendsLent t time timeout «give_up» (now (lent .entry)) ⌝ }
 {
-    if !table::well_formed(t) {
-        return refused(t, 1);
-    }
-    if time < t.latest {
-        return refused(t, 3);
-    }
     let mut u = t;
     u.latest = time;
     let a = t.offs;
@@ -184,4 +221,26 @@ pub fn take_resends(t: Table, time: u64, timeout: u64, give_up: u64, lent: &mut 
         code: 0,
         rows,
     }
+}
+
+pub fn take_resends(t: Table, time: u64, timeout: u64, give_up: u64, lent: &mut [u32]) -> Resent
+    ensures { λ r. ⌜ r ≡ resendsOf t time timeout «give_up» (now (lent .entry)) ⌝ }
+    ensures { λ r. ⌜ now (lent .exit) ≡ resendsLent t time timeout «give_up» (now (lent .entry)) ⌝ }
+{
+    if !table::well_formed(t) {
+        return refused(t, 1);
+    }
+    if time < t.latest {
+        return refused(t, 3);
+    }
+    if quiet(t, time, timeout, give_up) {
+        let mut u = t;
+        u.latest = time;
+        return Resent {
+            table: u,
+            code: 0,
+            rows: 0,
+        };
+    }
+    send_again(t, time, timeout, give_up, lent)
 }

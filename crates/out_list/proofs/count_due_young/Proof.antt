@@ -1,18 +1,15 @@
--- The count is of the first i. Assumes nothing.
+-- The count is of the first i places. Assumes nothing.
 use mathlib.Core.Logic.{⊎-elim}
 use Prim.Native.Nat.{_-_}
-use Rattle.out_list.proofs.Resends.{Counting, dueYoung, count-one, count-none, counting-young}
+use Rattle.out_list.proofs.Resends.{Counting, dueYoung, whole, count-one, count-none, counting-young}
 use Rattle.out_list.proofs.count_due_young.Statement.{statement}
 use Rattle.out_list.proofs.count_due_young.Tie as tie
 
 abbrev Inv-loop : tie.InvT-loop
-Inv-loop time timeout give-up o n count₀ i₀ count i = Counting o (dueYoung time timeout give-up) count i
+Inv-loop time timeout give-up o count₀ i₀ count i = Counting (whole o) (dueYoung time timeout give-up) count i
 
 abbrev μ-loop : tie.MeasureT-loop
-μ-loop time timeout give-up o n count₀ i₀ count i = n - i
-
-cast-n : tie.Need-cast-n Inv-loop μ-loop
-cast-n c = search counting-young
+μ-loop time timeout give-up o count₀ i₀ count i = 32 - i
 
 loop-holds : tie.Need-loop-holds Inv-loop μ-loop
 loop-holds c = search counting-young
@@ -47,7 +44,6 @@ count-due-young-spec =
     (tie.spec
     Inv-loop
     μ-loop
-    cast-n
     loop-holds
     mul-e
     element-copy-out-e

@@ -7,10 +7,10 @@ use Rattle.out_list.proofs.drop_given_up.Statement.{statement}
 use Rattle.out_list.proofs.drop_given_up.Tie as tie
 
 abbrev Inv-loop : tie.InvT-loop
-Inv-loop time give-up o n r₀ i₀ r i = Keeping o (young time give-up) r i
+Inv-loop time give-up o n r₀ k₀ i₀ r k i = Keeping o (young time give-up) r k i
 
 abbrev μ-loop : tie.MeasureT-loop
-μ-loop time give-up o n r₀ i₀ r i = n - i
+μ-loop time give-up o n r₀ k₀ i₀ r k i = n - i
 
 cast-n : tie.Need-cast-n Inv-loop μ-loop
 cast-n c = search keeping
@@ -30,8 +30,14 @@ element-copy-out-e c = search keeping
 young-requires : tie.Need-young-requires Inv-loop μ-loop
 young-requires c κs = search keeping
 
-add-out-reliable-packet-requires : tie.Need-add-out-reliable-packet-requires Inv-loop μ-loop
-add-out-reliable-packet-requires c κs = search keeping
+mul-e-2 : tie.Need-mul-e-2 Inv-loop μ-loop
+mul-e-2 c = search keeping
+
+element-set-from-e : tie.Need-element-set-from-e Inv-loop μ-loop
+element-set-from-e c = search keeping
+
+add-k : tie.Need-add-k Inv-loop μ-loop
+add-k c = search keeping
 
 add-i : tie.Need-add-i Inv-loop μ-loop
 add-i c = search keeping
@@ -41,6 +47,9 @@ loop-less c = search keeping
 
 loop-again : tie.Need-loop-again Inv-loop μ-loop
 loop-again c = ⊎-elim (λ w. search keep-take) (λ w. search keep-leave) (c .if1 .came)
+
+cast-r : tie.Need-cast-r Inv-loop μ-loop
+cast-r c = search keeping
 
 returns : tie.Need-returns Inv-loop μ-loop
 returns c = search keeping
@@ -57,8 +66,11 @@ drop-given-up-spec =
     mul-e
     element-copy-out-e
     young-requires
-    add-out-reliable-packet-requires
+    mul-e-2
+    element-set-from-e
+    add-k
     add-i
     loop-less
     loop-again
+    cast-r
     returns)
