@@ -28,7 +28,7 @@ use Rattle.table.specs.declared.Table.{Table}
 use Rattle.table.specs.Table.{wfb}
 use Rattle.calls.specs.declared.Resent.{Resent}
 use Rattle.calls.specs.Calls.{resendsOf, resendsLent}
-use Rattle.resends.specs.Resends.{listCalm, offCalm, onCalm, listRows, listSent, offRows, onRows, offsSent, onsSent, writtenAt, InForm, OffsWf, OnsWf}
+use Rattle.resends.specs.Resends.{listCalm, offCalm, onCalm, listRows, listSent, offRows, onRows, offsSent, onsSent, InForm, OffsWf, OnsWf}
 use Rattle.resends.proofs.Channels.{Kind, rowsOf, sentOf, form-at}
 use Rattle.resends.proofs.Sides.{offKind, off-rows, offs-sent, onKind, on-rows, ons-sent}
 use Rattle.resends.proofs.Door.{offs-form, ons-form, atTime, sent-is, sent-lent}

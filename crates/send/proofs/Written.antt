@@ -6,8 +6,10 @@ use mathlib.Core.Option.{Option, none, some}
 use Prim.Native.Nat.{ℕ, zero, suc, _≤_, _<_}
 use native.Mathlib.Omega.{arith}
 use borrow.Author.Needs.{needs}
-use borrow.Author.Tests.{eq-eqb, ne-eqb, not-true, not-false}
+use borrow.Author.Tests.{eq-eqb, ne-eqb, lt-ltb, le-ltb, ltb-true, ltb-false, not-true, not-false}
+use lib.Dec.{ltb}
 use lib.ListN.{length, take, getD}
+use lib.Seq.{set-getD}
 use Rattle.lists.specs.Pad.{pad}
 use Rattle.lists.specs.Find.{has, removeFirst}
 use Rattle.lists.proofs.Pad.{length-pad, pad-short}
@@ -35,7 +37,8 @@ use Rattle.calls.specs.declared.Names.{Names}
 use Rattle.calls.specs.Places.{placeOn, placeOff}
 use Rattle.calls.specs.Calls.{Outcome, tableReply, doneOf, namesOf, wroteAcks}
 use Rattle.calls.proofs.Called.{called-refused, called-granted, tested, key-tested, key-placed, on-index, off-index, on-key-there, on-key-absent, on-key-fits, on-key-data, on-key-store, off-key-there, off-key-absent, off-key-fits, off-key-data, off-key-store, on-standing, on-standing-abs, on-standing-below, off-standing, off-standing-abs, off-standing-below}
-use Rattle.send.specs.Send.{wroteIn, absentCode}
+use Rattle.send.specs.Send.{wroteIn, frontCode, absentCode, namesCode}
+use Rattle.send.proofs.Outside.{outsideOff, outsideOn}
 
 -- ---- absent: 13 for an empty list, 2 for any name
 
@@ -46,6 +49,37 @@ pub lacking-some : (n : ℕ) → (n ≡ 0 → ⊥) → _≡_ {A = ℕ} 2 (absent
 lacking-some n h = rw (ne-eqb n 0 h)
 
 pub ruleset lacking = (lacking-none, lacking-some, needs)
+
+-- ---- 2 for a name that is not there
+
+pub names-lacking : (ok : ℕ) → ok ≡ 0 → _≡_ {A = ℕ} 2 (namesCode ok)
+names-lacking ok h = rw (eq-eqb ok 0 h)
+
+pub names-there : (ok : ℕ) → (ok ≡ 0 → ⊥) → _≡_ {A = ℕ} 0 (namesCode ok)
+names-there ok h = rw (ne-eqb ok 0 h)
+
+pub ruleset judging = (names-lacking, names-there, needs)
+
+-- ---- the tests in front: 1, 2
+
+pub front-unformed : (g : Bool) (k : Key) (n : ℕ) → not g ≡ true → _≡_ {A = ℕ} 1 (frontCode g k n)
+front-unformed g k n h = rw (not-true g h)
+
+pub front-malformed : (g : Bool) (k : Key) (n : ℕ) (m : Bool) → not g ≡ false → m ≡ keyMade k → not m ≡ true → _≡_ {A = ℕ} 2 (frontCode g k n)
+front-malformed g k n m h y z = rw (not-false g h, sym y ∙ not-true m z)
+
+pub front-many : (g : Bool) (k : Key) (n : ℕ) (m : Bool) → not g ≡ false → m ≡ keyMade k → not m ≡ false → 64 < n → _≡_ {A = ℕ} 2 (frontCode g k n)
+front-many g k n m h y z l = rw (not-false g h, key-tested k m y z, lt-ltb 64 n l)
+
+pub front-past : (g : Bool) (k : Key) (n : ℕ) (m : Bool) → not g ≡ false → m ≡ keyMade k → not m ≡ false → n ≤ 64 → _≡_ {A = ℕ} 0 (frontCode g k n)
+front-past g k n m h y z l = rw (not-false g h, key-tested k m y z, le-ltb 64 n l)
+
+pub ruleset fronting = (front-unformed, front-malformed, front-many, front-past, needs)
+
+-- ---- an on-channel's place, by the index that the key names
+
+pub placed : (t : Table) (k : Key) (i at : ℕ) → i ≡ keyIndex k → at ≡ placeOn (k .address) i (abs t) → at ≡ placeOn (k .address) (keyIndex k) (abs t)
+placed t k i at e p = p ∙ ap (λ (j : ℕ). placeOn (k .address) j (abs t)) e
 
 -- ---- more names than there are numbers are not all there
 
@@ -135,6 +169,10 @@ module _ (t : Table) (k : Key) (n : Names) (w : Wf t) where
       lacking-is : x .ok ≡ 0 → _≡_ {A = Done} (record { table = t; code = 2 }) (wroteIn t k n)
       lacking-is z = two-is (reply-lacking k (namesOf n) (abs t) true v here (taken-is ∙ lacks (takeWritten (namesOf n) (acks.abs q)) e z))
 
+      -- what is handed back is then the queue as it was
+      queue-stays : x .ok ≡ 0 → x .queue ≡ q
+      queue-stays z = ap (λ (y : Taken). y .queue) e ∙ ap (λ (o : Option (List ℕ)). acks.takenOf o q .queue) (lacks (takeWritten (namesOf n) (acks.abs q)) e z)
+
       gone-is : (u : Table) → (x .ok ≡ 0 → ⊥) → ((qs : List ℕ) → x .queue ≡ acks.repr qs → u ≡ repr (model.withProtocol (putData k (model.withAcks qs (dataOf k (abs t .protocol))) (abs t .protocol)) (abs t)))
           → _≡_ {A = Done} (record { table = u; code = 0 }) (wroteIn t k n)
       unfolding wroteIn
@@ -164,7 +202,7 @@ onAcks c q =
       queue = c .queue;
     }
 
-pub on-absent : (t : Table) (k : Key) (n : Names) (i at c : ℕ) → Wf t → keyMade k ≡ true → k .on ≡ 1 → i ≡ keyIndex k → at ≡ placeOn (k .address) i (abs t) → t .oncount ≤ at
+on-absent : (t : Table) (k : Key) (n : Names) (i at c : ℕ) → Wf t → keyMade k ≡ true → k .on ≡ 1 → i ≡ keyIndex k → at ≡ placeOn (k .address) i (abs t) → t .oncount ≤ at
     → c ≡ absentCode (n .count) → _≡_ {A = Done} (record { table = t; code = c }) (wroteIn t k n)
 on-absent t k n i at c w v o x q h e = absent-is t k n w v c (on-key-absent t w k o (omega (arith, key-placed k (abs t) i at x q))) e
 
@@ -181,10 +219,10 @@ module _ (t : Table) (k : Key) (n : Names) (i at : ℕ) (d : OnChannel) (x : Tak
   on-same =
       ap (λ (c : model.OnChannel). c .off .acks) (on-standing-abs t w k i at ki p h d) ∙ ap (λ (y : model.OffData). y .acks) (sym (on-key-data k (abs t .protocol) o))
 
-  pub on-lacks : x .ok ≡ 0 → _≡_ {A = Done} (record { table = t; code = 2 }) (wroteIn t k n)
+  on-lacks : x .ok ≡ 0 → _≡_ {A = Done} (record { table = t; code = 2 }) (wroteIn t k n)
   on-lacks z = lacking-is t k n w v (getD (t .ons) at d .acks) x on-there on-same e z
 
-  pub on-gone : (x .ok ≡ 0 → ⊥) → _≡_ {A = Done} (record { table = storeOn t (t .oncount) at (onAcks (getD (t .ons) at d) (x .queue)); code = 0 }) (wroteIn t k n)
+  on-gone : (x .ok ≡ 0 → ⊥) → _≡_ {A = Done} (record { table = storeOn t (t .oncount) at (onAcks (getD (t .ons) at d) (x .queue)); code = 0 }) (wroteIn t k n)
   on-gone z =
       let s = abs t in
       let pr = s .protocol in
@@ -196,12 +234,27 @@ module _ (t : Table) (k : Key) (n : Names) (i at : ℕ) (d : OnChannel) (x : Tak
       ∙ on-key-store t w k o (on-standing-below t w k i at ki p h) (model.withAcks qs (keyOn k pr .off))
       ∙ ap (λ (a : model.OffData). repr (model.withProtocol (putData k (model.withAcks qs a) pr) s)) (sym (on-key-data k pr o)))
 
+  on-stays : x .ok ≡ 0 → storeOn t (t .oncount) at (onAcks (getD (t .ons) at d) (x .queue)) ≡ t
+  on-stays z =
+      (λ j. storeOn t (t .oncount) at (onAcks (getD (t .ons) at d) (queue-stays t k n w v (getD (t .ons) at d .acks) x on-there on-same e z j)))
+      ∙ ap (λ (l : List OnChannel). record { latest = t .latest; forwarding = t .forwarding; prefix = t .prefix; offset = t .offset; source = t .source; offcount = t .offcount; oncount = t .oncount; offs = t .offs; ons = l }) (set-getD (t .ons) at d)
+
+  pub on-wrote : (c : ℕ) → c ≡ namesCode (x .ok) → _≡_ {A = Done} (record { table = storeOn t (t .oncount) at (onAcks (getD (t .ons) at d) (x .queue)); code = c }) (wroteIn t k n)
+  on-wrote c q = by (x .ok) refl
+    where
+      by : (m : ℕ) → x .ok ≡ m → _≡_ {A = Done} (record { table = storeOn t (t .oncount) at (onAcks (getD (t .ons) at d) (x .queue)); code = c }) (wroteIn t k n)
+      by zero z = let y : c ≡ 2 = q ∙ sym (names-lacking (x .ok) z) in (λ j. record { table = on-stays z j; code = y j }) ∙ on-lacks z
+      by (suc m) z =
+          let nz : x .ok ≡ 0 → ⊥ = λ o. omega (arith, z, o) in
+          let y : c ≡ 0 = q ∙ sym (names-there (x .ok) nz) in
+          (λ j. record { table = storeOn t (t .oncount) at (onAcks (getD (t .ons) at d) (x .queue)); code = y j }) ∙ on-gone nz
+
 -- ---- an off-channel
 
 abbrev offAcks : OffChannel → AckQueue → OffChannel
 offAcks c q = record { address = c .address; out = c .out; acks = q; groups = c .groups; bundles = c .bundles }
 
-pub off-absent : (t : Table) (k : Key) (n : Names) (at c : ℕ) → Wf t → keyMade k ≡ true → (k .on ≡ 1 → ⊥) → at ≡ placeOff (k .address) (abs t) → t .offcount ≤ at
+off-absent : (t : Table) (k : Key) (n : Names) (at c : ℕ) → Wf t → keyMade k ≡ true → (k .on ≡ 1 → ⊥) → at ≡ placeOff (k .address) (abs t) → t .offcount ≤ at
     → c ≡ absentCode (n .count) → _≡_ {A = Done} (record { table = t; code = c }) (wroteIn t k n)
 off-absent t k n at c w v o q h e = absent-is t k n w v c (off-key-absent t w k o (omega (arith, q))) e
 
@@ -218,10 +271,10 @@ module _ (t : Table) (k : Key) (n : Names) (at : ℕ) (d : OffChannel) (x : Take
   off-same =
       ap (λ (c : model.OffChannel). c .off .acks) (off-standing-abs t w k at p h d) ∙ ap (λ (y : model.OffData). y .acks) (sym (off-key-data k (abs t .protocol) o))
 
-  pub off-lacks : x .ok ≡ 0 → _≡_ {A = Done} (record { table = t; code = 2 }) (wroteIn t k n)
+  off-lacks : x .ok ≡ 0 → _≡_ {A = Done} (record { table = t; code = 2 }) (wroteIn t k n)
   off-lacks z = lacking-is t k n w v (getD (t .offs) at d .acks) x off-there off-same e z
 
-  pub off-gone : (x .ok ≡ 0 → ⊥) → _≡_ {A = Done} (record { table = storeOff t (t .offcount) at (offAcks (getD (t .offs) at d) (x .queue)); code = 0 }) (wroteIn t k n)
+  off-gone : (x .ok ≡ 0 → ⊥) → _≡_ {A = Done} (record { table = storeOff t (t .offcount) at (offAcks (getD (t .offs) at d) (x .queue)); code = 0 }) (wroteIn t k n)
   off-gone z =
       let s = abs t in
       let pr = s .protocol in
@@ -232,26 +285,70 @@ module _ (t : Table) (k : Key) (n : Names) (at : ℕ) (d : OffChannel) (x : Take
       ∙ off-key-store t w k o (off-standing-below t w k at p h) (model.withAcks qs (keyOff k pr .off))
       ∙ ap (λ (a : model.OffData). repr (model.withProtocol (putData k (model.withAcks qs a) pr) s)) (sym (off-key-data k pr o)))
 
-pub ruleset writing = (on-absent, on-acks-wf, on-lacks, on-gone, on-index, off-absent, off-acks-wf, off-lacks, off-gone, off-index, needs)
+  off-stays : x .ok ≡ 0 → storeOff t (t .offcount) at (offAcks (getD (t .offs) at d) (x .queue)) ≡ t
+  off-stays z =
+      (λ j. storeOff t (t .offcount) at (offAcks (getD (t .offs) at d) (queue-stays t k n w v (getD (t .offs) at d .acks) x off-there off-same e z j)))
+      ∙ ap (λ (l : List OffChannel). record { latest = t .latest; forwarding = t .forwarding; prefix = t .prefix; offset = t .offset; source = t .source; offcount = t .offcount; oncount = t .oncount; offs = l; ons = t .ons }) (set-getD (t .offs) at d)
+
+  pub off-wrote : (c : ℕ) → c ≡ namesCode (x .ok) → _≡_ {A = Done} (record { table = storeOff t (t .offcount) at (offAcks (getD (t .offs) at d) (x .queue)); code = c }) (wroteIn t k n)
+  off-wrote c q = by (x .ok) refl
+    where
+      by : (m : ℕ) → x .ok ≡ m → _≡_ {A = Done} (record { table = storeOff t (t .offcount) at (offAcks (getD (t .offs) at d) (x .queue)); code = c }) (wroteIn t k n)
+      by zero z = let y : c ≡ 2 = q ∙ sym (names-lacking (x .ok) z) in (λ j. record { table = off-stays z j; code = y j }) ∙ off-lacks z
+      by (suc m) z =
+          let nz : x .ok ≡ 0 → ⊥ = λ o. omega (arith, z, o) in
+          let y : c ≡ 0 = q ∙ sym (names-there (x .ok) nz) in
+          (λ j. record { table = storeOff t (t .offcount) at (offAcks (getD (t .offs) at d) (x .queue)); code = y j }) ∙ off-gone nz
 
 -- ---- the whole call: 1, 2, and the rest
 
-pub written-unformed : (t : Table) (k : Key) (n : Names) (b : Bool) → b ≡ wfb t → not b ≡ true → _≡_ {A = Done} (record { table = t; code = 1 }) (wroteAcks t k n)
+written-unformed : (t : Table) (k : Key) (n : Names) → wfb t ≡ false → _≡_ {A = Done} (record { table = t; code = 1 }) (wroteAcks t k n)
 unfolding wroteAcks
-written-unformed t k n b e h = ap (λ (o : Outcome). doneOf o) (sym (called-refused (acksWritten k (namesOf n)) t (sym e ∙ not-true b h)))
+written-unformed t k n h = ap (λ (o : Outcome). doneOf o) (sym (called-refused (acksWritten k (namesOf n)) t h))
 
 -- past 1 the call is the model's
-written-formed : (t : Table) (k : Key) (n : Names) (b : Bool) → b ≡ wfb t → not b ≡ false → wroteIn t k n ≡ wroteAcks t k n
+written-formed : (t : Table) (k : Key) (n : Names) → wfb t ≡ true → wroteIn t k n ≡ wroteAcks t k n
 unfolding wroteAcks wroteIn reply
-written-formed t k n b e h = ap (λ (o : Outcome). doneOf o) (sym (called-granted (acksWritten k (namesOf n)) t (sym e ∙ not-false b h)))
+written-formed t k n h = ap (λ (o : Outcome). doneOf o) (sym (called-granted (acksWritten k (namesOf n)) t h))
 
-pub written-malformed : (t : Table) (k : Key) (n : Names) (b m : Bool) → b ≡ wfb t → not b ≡ false → m ≡ keyMade k → not m ≡ true → _≡_ {A = Done} (record { table = t; code = 2 }) (wroteAcks t k n)
-written-malformed t k n b m e h y z = two-is t k n (tested t b e h) (reply-malformed k (namesOf n) (abs t) (sym y ∙ not-true m z)) ∙ written-formed t k n b e h
+pub record Past (t : Table) (k : Key) (n : Names) : Type 0 where
+  pub test : wfb t ≡ true
+  pub form : Wf t
+  pub made : keyMade k ≡ true
+  pub few : n .count ≤ 64
 
-pub written-many : (t : Table) (k : Key) (n : Names) (b m : Bool) → b ≡ wfb t → not b ≡ false → m ≡ keyMade k → not m ≡ false → 64 < n .count → _≡_ {A = Done} (record { table = t; code = 2 }) (wroteAcks t k n)
-written-many t k n b m e h y z l = many-is t k n (tested t b e h) (key-tested k m y z) l ∙ written-formed t k n b e h
+module _ (t : Table) (k : Key) (n : Names) (g : Bool) (c : ℕ) (e : g ≡ wfb t) (q : c ≡ frontCode g k (n .count)) where
+  pub past-front : c ≡ 0 → Past t k n
+  past-front z = at g (keyMade k) (ltb 64 (n .count)) e refl refl (sym q ∙ z)
+    where
+      at : (g m l : Bool) → g ≡ wfb t → keyMade k ≡ m → ltb 64 (n .count) ≡ l → _≡_ {A = ℕ} (cond g (cond m (cond l 2 0) 2) 1) 0 → Past t k n
+      at false m l f y x h = absurd (omega (arith, h))
+      at true false l f y x h = absurd (omega (arith, h))
+      at true true true f y x h = absurd (omega (arith, h))
+      at true true false f y x h = record { test = sym f; form = tested t true f refl; made = y; few = ltb-false 64 (n .count) x }
 
-pub written-is : (t : Table) (k : Key) (n : Names) (b : Bool) (d : Done) → b ≡ wfb t → not b ≡ false → d ≡ wroteIn t k n → d ≡ wroteAcks t k n
-written-is t k n b d e h q = q ∙ written-formed t k n b e h
+  pub written-front : (c ≡ 0 → ⊥) → _≡_ {A = Done} (record { table = t; code = c }) (wroteAcks t k n)
+  written-front nz = at g (keyMade k) (ltb 64 (n .count)) e refl refl q
+    where
+      at : (g m l : Bool) → g ≡ wfb t → keyMade k ≡ m → ltb 64 (n .count) ≡ l → c ≡ cond g (cond m (cond l 2 0) 2) 1 → _≡_ {A = Done} (record { table = t; code = c }) (wroteAcks t k n)
+      at false m l f y x h = (λ j. record { table = t; code = h j }) ∙ written-unformed t k n (sym f)
+      at true false l f y x h = (λ j. record { table = t; code = h j }) ∙ two-is t k n (tested t true f refl) (reply-malformed k (namesOf n) (abs t) y) ∙ written-formed t k n (sym f)
+      at true true true f y x h = (λ j. record { table = t; code = h j }) ∙ many-is t k n (tested t true f refl) y (ltb-true 64 (n .count) x) ∙ written-formed t k n (sym f)
+      at true true false f y x h = absurd (nz h)
 
-pub ruleset written = (written-unformed, written-malformed, written-many, written-is, tested, key-tested, needs)
+module _ (t : Table) (k : Key) (n : Names) (p : Past t k n) where
+  module _ (o : k .on ≡ 1) (at : ℕ) (pl : at ≡ placeOn (k .address) (keyIndex k) (abs t)) where
+    pub written-on-absent : (c : ℕ) → t .oncount ≤ at → c ≡ absentCode (n .count) → _≡_ {A = Done} (record { table = t; code = c }) (wroteAcks t k n)
+    written-on-absent c h e = on-absent t k n (keyIndex k) at c (p .form) (p .made) o refl pl h e ∙ written-formed t k n (p .test)
+
+    pub written-on : (c : ℕ) (x : Taken) → at < t .oncount → x ≡ acks.takenOf (takeWritten (namesOf n) (acks.abs (getD (t .ons) at outsideOn .acks))) (getD (t .ons) at outsideOn .acks) → c ≡ namesCode (x .ok)
+        → _≡_ {A = Done} (record { table = storeOn t (t .oncount) at (onAcks (getD (t .ons) at outsideOn) (x .queue)); code = c }) (wroteAcks t k n)
+    written-on c x h e q = on-wrote t k n (keyIndex k) at outsideOn x (p .form) (p .made) o refl pl h e c q ∙ written-formed t k n (p .test)
+
+  module _ (o : k .on ≡ 1 → ⊥) (at : ℕ) (pl : at ≡ placeOff (k .address) (abs t)) where
+    pub written-off-absent : (c : ℕ) → t .offcount ≤ at → c ≡ absentCode (n .count) → _≡_ {A = Done} (record { table = t; code = c }) (wroteAcks t k n)
+    written-off-absent c h e = off-absent t k n at c (p .form) (p .made) o pl h e ∙ written-formed t k n (p .test)
+
+    pub written-off : (c : ℕ) (x : Taken) → at < t .offcount → x ≡ acks.takenOf (takeWritten (namesOf n) (acks.abs (getD (t .offs) at outsideOff .acks))) (getD (t .offs) at outsideOff .acks) → c ≡ namesCode (x .ok)
+        → _≡_ {A = Done} (record { table = storeOff t (t .offcount) at (offAcks (getD (t .offs) at outsideOff) (x .queue)); code = c }) (wroteAcks t k n)
+    written-off c x h e q = off-wrote t k n at outsideOff x (p .form) (p .made) o pl h e c q ∙ written-formed t k n (p .test)

@@ -24,9 +24,17 @@ wroteIn t k n = doneOf (tableReply (acksWrittenS k (namesOf n) (abs t)))
 unfoldable pub sentIn : Table → ℕ → Key → ℕ → Handles → Sent
 sentIn t time k reliable h = sentOf (tableReply (prepareS time k reliable (handlesOf h) (abs t)))
 
+-- acks written: 1 and 2, where they are told from the table's form, the key and the count alone
+abbrev pub frontCode : Bool → Key → ℕ → ℕ
+frontCode good k n = cond good (cond (keyMade k) (cond (ltb 64 n) 2 0) 2) 1
+
 -- "An absent channel gives 2 for any name, 13 for an empty list"
 abbrev pub absentCode : ℕ → ℕ
 absentCode names = cond (eqb names 0) 13 2
+
+-- "if one is lacking, refusal 2": whether all were there
+abbrev pub namesCode : ℕ → ℕ
+namesCode ok = cond (eqb ok 0) 2 0
 
 -- 2 where this is false
 abbrev pub asked : Key → ℕ → ℕ → Bool

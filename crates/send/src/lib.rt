@@ -18,14 +18,15 @@ ghost use mathlib.Core.Bool.{true};
 ghost use mathlib.Core.List.{_++_};
 ghost use Prim.Native.Nat.{_+_, _≤_};
 ghost use Rattle.seq.specs.Num as Num;
-ghost use Rattle.packet.specs.Data.{keyMade};
+ghost use Rattle.packet.specs.Data.{keyIndex, keyMade};
 ghost use Rattle.model.specs.Acks.{takeWritten};
 ghost use Rattle.model.specs.Rust.{sentEntries};
 ghost use Rattle.ack_queue.specs.Queue as acks;
 ghost use Rattle.out_list.specs.Out as out;
-ghost use Rattle.table.specs.Table.{Wf};
+ghost use Rattle.table.specs.Table.{abs, Wf};
+ghost use Rattle.calls.specs.Places.{placeOn};
 ghost use Rattle.calls.specs.Calls.{handlesOf, namesOf, preparedBy, wroteAcks};
-ghost use Rattle.send.specs.Send.{wroteIn, absentCode, asked, answerOf, refusedBy, looseOf, sentIn};
+ghost use Rattle.send.specs.Send.{frontCode, absentCode, namesCode, asked, answerOf, refusedBy, looseOf, sentIn};
 
 // ---- acks written
 
@@ -49,77 +50,78 @@ fn take_names(q: AckQueue, n: Names) -> Taken
     ack_queue::take_written(q, names, n.count)
 }
 
-// "if one is lacking, refusal 2"
-fn wrote_on(t: Table, k: Key, n: Names) -> Done
+// "if one is lacking, refusal 2"; the queue is then as it was.
+fn names_code(ok: u32) -> u32
+    ensures { λ r. ⌜ r ≡ namesCode ok ⌝ }
+{
+    if ok == 0 {
+        return 2;
+    }
+    0
+}
+
+// 1, then 2 for the key; and more names than a queue has places cannot all be there.
+fn front_code(good: bool, k: Key, count: u32) -> u32
+    ensures { λ r. ⌜ r ≡ frontCode good k count ⌝ }
+{
+    if !good {
+        return 1;
+    }
+    if !k.well_made() {
+        return 2;
+    }
+    if 64 < count {
+        return 2;
+    }
+    0
+}
+
+// Where the key's on-channel stands, or the count where it is absent.
+fn on_at(t: Table, k: Key) -> usize
     requires { ⌜ Wf t ⌝ }
-    requires { ⌜ keyMade k ≡ true ⌝ }
-    requires { ⌜ n .count ≤ 64 ⌝ }
-    requires { ⌜ k .on ≡ 1 ⌝ }
-    ensures { λ d. ⌜ d ≡ wroteIn t k n ⌝ }
+    ensures { λ r. ⌜ r ≡ placeOn (k .address) (keyIndex k) (abs t) ⌝ }
 {
     let index = calls::index_of(k);
-    let at = calls::on_place(t, k.address, index);
-    if t.oncount as usize <= at {
-        let code = lacking(n.count);
-        return Done { table: t, code };
-    }
-    let c = t.ons[at];
-    let q = c.acks;
-    let x = take_names(q, n);
-    if x.ok == 0 {
-        return Done { table: t, code: 2 };
-    }
-    let rest = x.queue;
-    let mut d = c;
-    d.acks = rest;
-    let mut u = t;
-    u.ons[at] = d;
-    Done { table: u, code: 0 }
+    calls::on_place(t, k.address, index)
 }
 
-fn wrote_off(t: Table, k: Key, n: Names) -> Done
-    requires { ⌜ Wf t ⌝ }
-    requires { ⌜ keyMade k ≡ true ⌝ }
-    requires { ⌜ n .count ≤ 64 ⌝ }
-    requires { ⌜ (k .on ≡ 1 → ⊥) ⌝ }
-    ensures { λ d. ⌜ d ≡ wroteIn t k n ⌝ }
-{
-    let at = calls::off_place(t, k.address);
-    if t.offcount as usize <= at {
-        let code = lacking(n.count);
-        return Done { table: t, code };
-    }
-    let c = t.offs[at];
-    let q = c.acks;
-    let y = take_names(q, n);
-    if y.ok == 0 {
-        return Done { table: t, code: 2 };
-    }
-    let rest = y.queue;
-    let mut d = c;
-    d.acks = rest;
-    let mut u = t;
-    u.offs[at] = d;
-    Done { table: u, code: 0 }
-}
-
-// More names than a queue has places cannot all be there.
+// The table leaves at one place, since each further exit would copy it once more.
 pub fn acks_written(t: Table, k: Key, n: Names) -> Done
     ensures { λ d. ⌜ d ≡ wroteAcks t k n ⌝ }
 {
-    if !table::well_formed(t) {
-        return Done { table: t, code: 1 };
+    let good = table::well_formed(t);
+    let mut code = front_code(good, k, n.count);
+    let mut u = t;
+    if code == 0 {
+        if k.on == 1 {
+            let at = on_at(u, k);
+            if u.oncount as usize <= at {
+                code = lacking(n.count);
+            } else {
+                let mut c = u.ons[at];
+                let q = c.acks;
+                let x = take_names(q, n);
+                let rest = x.queue;
+                c.acks = rest;
+                u.ons[at] = c;
+                code = names_code(x.ok);
+            }
+        } else {
+            let at = calls::off_place(u, k.address);
+            if u.offcount as usize <= at {
+                code = lacking(n.count);
+            } else {
+                let mut c = u.offs[at];
+                let q = c.acks;
+                let y = take_names(q, n);
+                let rest = y.queue;
+                c.acks = rest;
+                u.offs[at] = c;
+                code = names_code(y.ok);
+            }
+        }
     }
-    if !k.well_made() {
-        return Done { table: t, code: 2 };
-    }
-    if 64 < n.count {
-        return Done { table: t, code: 2 };
-    }
-    if k.on == 1 {
-        return wrote_on(t, k, n);
-    }
-    wrote_off(t, k, n)
+    Done { table: u, code }
 }
 
 // ---- send
