@@ -13,15 +13,16 @@ use Rattle.lists.proofs.Pad.{length-of-map}
 use Rattle.packet.specs.declared.Key.{Key}
 use Rattle.packet.specs.Data.{keyIndex, keyMade}
 use Rattle.model.specs.State as model
-use Rattle.model.specs.Refusals.{outOfRange, channelAbsent, listTooShort}
+use Rattle.model.specs.Refusals.{Refusal, outOfRange, channelAbsent, listTooShort}
 use Rattle.model.specs.Calls.{nextBundle, Answer, refused, noBundle, bundle, lent}
 use Rattle.model.specs.Rust.{keyOn, keyOff, hasKey, dataOf, putData, popped}
-use Rattle.model.specs.Port.{Reply, untimed, refuse, handOut, next, nextOf, nextBundleS, reply}
+use Rattle.model.specs.Port.{Reply, answerOne, untimed, refuse, handOut, next, nextOf, nextBundleS, reply}
 use Rattle.bundles.specs.declared.Bundles.{Bundles}
 use Rattle.bundles.specs.Bundles as bundles
 use Rattle.bundles.proofs.Model.{wf-len, wf-repr, abs-repr}
 use Rattle.channel.specs.declared.OffChannel.{OffChannel}
 use Rattle.channel.specs.declared.OnChannel.{OnChannel}
+use Rattle.channel.specs.Channel.{reprOff, reprOn}
 use Rattle.channel.proofs.Laws.{Fits, fits-parts, on-data}
 use Rattle.table.specs.declared.Table.{Table}
 use Rattle.table.specs.Table.{abs, repr, Wf, wfb}
@@ -32,9 +33,10 @@ use Rattle.calls.specs.Answers.{codeOf, someOf, lengthOf}
 use Rattle.calls.specs.Places.{placeOn}
 use Rattle.calls.specs.Calls as Calls
 use Rattle.calls.specs.Calls.{Outcome, tableReply, called, poppedOf, nextLent}
-use Rattle.calls.proofs.Called.{tested, key-tested, keyPlaceOff, key-placed, on-standing, on-standing-below, off-standing, off-standing-below, called-refused, called-granted, on-key-there, on-key-absent, on-key-fits, on-key-store, on-key-data, on-index, off-key-there, off-key-absent, off-key-fits, off-key-store, off-key-data, off-index}
+use Rattle.calls.proofs.Called.{tested, key-tested, keyPlaceOn, keyPlaceOff, key-placed, on-standing, on-standing-below, off-standing, off-standing-below, called-refused, called-granted, on-key-there, on-key-absent, on-key-fits, on-key-store, on-key-data, on-index, off-key-there, off-key-absent, off-key-fits, off-key-store, off-key-data, off-index}
 use Rattle.handout.specs.declared.Offer.{Offer}
-use Rattle.handout.specs.Handout.{offeredIf, offered, offerOf, nextIn, nextLentIn}
+use Rattle.handout.specs.declared.Spot.{Spot}
+use Rattle.handout.specs.Handout.{offeredIf, offered, offerOf, Refusing, OnSpot, OffSpot, Spotted}
 
 -- ---- what is offered of the bundles that wait
 
@@ -92,24 +94,6 @@ pub ruleset offering = (offer-none, offer-short, offer-made, lent-none, lent-sho
 
 -- ---- the model's rule, from what is offered
 
-offered-zero : (bs : List (List ℕ)) (n : ℕ) → someOf (offered bs n) ≡ 0 → lengthOf (offered bs n) ≡ 0
-unfolding offered
-offered-zero [] n h = refl
-offered-zero (b ∷ bs) n h = at (leb (length b) n) h
-  where
-    at : (t : Bool) → someOf (offeredIf t b) ≡ 0 → lengthOf (offeredIf t b) ≡ 0
-    at true q = absurd (omega (arith, q))
-    at false q = refl
-
-offered-one : (bs : List (List ℕ)) (n : ℕ) → (someOf (offered bs n) ≡ 0 → ⊥) → offered bs n ≡ bundle (bundles.front bs)
-unfolding offered
-offered-one [] n h = absurd (h refl)
-offered-one (b ∷ bs) n h = at (leb (length b) n) h
-  where
-    at : (t : Bool) → (someOf (offeredIf t b) ≡ 0 → ⊥) → offeredIf t b ≡ bundle b
-    at true q = refl
-    at false q = absurd (q refl)
-
 next-answer : (bs : List (List ℕ)) (n : ℕ) (k : Key) (s : model.State) → next bs k n s .answer ≡ offered bs n
 unfolding offered
 next-answer [] n k s = refl
@@ -119,23 +103,23 @@ next-answer (b ∷ bs) n k s = at (leb (length b) n)
     at true = refl
     at false = refl
 
-next-kept : (bs : List (List ℕ)) (n : ℕ) (k : Key) (s : model.State) → someOf (offered bs n) ≡ 0 → next bs k n s .state ≡ s
+next-kept : (bs : List (List ℕ)) (n : ℕ) (k : Key) (s : model.State) → (someOf (offered bs n) ≡ 1 → ⊥) → next bs k n s .state ≡ s
 unfolding offered
 next-kept [] n k s h = refl
 next-kept (b ∷ bs) n k s h = at (leb (length b) n) h
   where
-    at : (t : Bool) → someOf (offeredIf t b) ≡ 0 → handOut t k b bs s .state ≡ s
-    at true q = absurd (omega (arith, q))
+    at : (t : Bool) → (someOf (offeredIf t b) ≡ 1 → ⊥) → handOut t k b bs s .state ≡ s
+    at true q = absurd (q refl)
     at false q = refl
 
-next-gone : (bs : List (List ℕ)) (n : ℕ) (k : Key) (s : model.State) → (someOf (offered bs n) ≡ 0 → ⊥) → next bs k n s .state ≡ model.withProtocol (popped k (drop 1 bs) (s .protocol)) s
+next-gone : (bs : List (List ℕ)) (n : ℕ) (k : Key) (s : model.State) → someOf (offered bs n) ≡ 1 → next bs k n s .state ≡ model.withProtocol (popped k (drop 1 bs) (s .protocol)) s
 unfolding offered
-next-gone [] n k s h = absurd (h refl)
+next-gone [] n k s h = absurd (omega (arith, h))
 next-gone (b ∷ bs) n k s h = at (leb (length b) n) h
   where
-    at : (t : Bool) → (someOf (offeredIf t b) ≡ 0 → ⊥) → handOut t k b bs s .state ≡ model.withProtocol (popped k bs (s .protocol)) s
+    at : (t : Bool) → someOf (offeredIf t b) ≡ 1 → handOut t k b bs s .state ≡ model.withProtocol (popped k bs (s .protocol)) s
     at true q = refl
-    at false q = absurd (q refl)
+    at false q = absurd (omega (arith, q))
 
 -- ---- the tests in front: 2, 13
 
@@ -151,53 +135,61 @@ reply-here : (k : Key) (n : ℕ) (s : model.State) → keyMade k ≡ true → ha
 unfolding nextBundleS
 reply-here k n s v h = λ i. nextOf (v i) (h i) k n s
 
--- ---- either kind: the channel is there, its bundles are those of b
+-- ---- a table in its form: the struct, and the lent list afterwards
 
-module _ (t : Table) (k : Key) (l : List ℕ) (w : Wf t) (v : keyMade k ≡ true) where
-  absent-is : hasKey k (abs t .protocol) ≡ false → _≡_ {A = Popped} (record { table = t; code = 13; some = 0; len = 0 }) (nextIn t k l)
-  unfolding nextIn
-  absent-is h =
-      (λ i. record { table = w .form i; code = 13; some = 0; len = 0 }) ∙ ap (λ (r : Reply). poppedOf (tableReply r)) (sym (reply-absent k (length l) (abs t) v h))
+module _ (t : Table) (k : Key) (l : List ℕ) (g : wfb t ≡ true) where
+  granted : called (nextBundle k l) t ≡ tableReply (nextBundleS k (length l) (abs t))
+  unfolding reply
+  granted = called-granted (nextBundle k l) t g
 
-  absent-lent : hasKey k (abs t .protocol) ≡ false → l ≡ nextLentIn t k l
-  unfolding nextLentIn
-  absent-lent h = ap (λ (r : Reply). lent (r .answer) l) (sym (reply-absent k (length l) (abs t) v h))
+  next-is : (r : Popped) → r ≡ poppedOf (tableReply (nextBundleS k (length l) (abs t))) → r ≡ Calls.nextOf t k l
+  unfolding Calls.nextOf
+  next-is r q = q ∙ ap (λ (o : Outcome). poppedOf o) (sym granted)
 
-  module _ (b : Bundles) (here : hasKey k (abs t .protocol) ≡ true) (same : bundles.abs b ≡ dataOf k (abs t .protocol) .bundles) where
+  lent-is : (out : List ℕ) → out ≡ lent (nextBundleS k (length l) (abs t) .answer) l → out ≡ nextLent t k l
+  unfolding nextLent
+  lent-is out q = q ∙ ap (λ (o : Outcome). lent (o .answer) l) (sym granted)
+
+  -- 2 and 13 are said of the table as it is
+  refusing : (x : Refusal) → nextBundleS k (length l) (abs t) ≡ record { answer = refused x; state = abs t } → Refusing t k (codeOf (refused x)) l
+  refusing x e =
+      record {
+        answers = next-is
+            (record { table = t; code = codeOf (refused x); some = 0; len = 0 })
+            ((λ i. record { table = test-wf t g .form i; code = codeOf (refused x); some = 0; len = 0 }) ∙ ap (λ (r : Reply). poppedOf (tableReply r)) (sym e));
+        leaves = lent-is l (ap (λ (r : Reply). lent (r .answer) l) (sym e));
+      }
+
+  -- the channel is there, its bundles are those of b
+  module _ (v : keyMade k ≡ true) (b : Bundles) (here : hasKey k (abs t .protocol) ≡ true) (same : bundles.abs b ≡ dataOf k (abs t .protocol) .bundles) where
     reply-is : nextBundleS k (length l) (abs t) ≡ next (bundles.abs b) k (length l) (abs t)
     reply-is = reply-here k (length l) (abs t) v here ∙ ap (λ (bs : List (List ℕ)). next bs k (length l) (abs t)) (sym same)
 
     answer-is : nextBundleS k (length l) (abs t) .answer ≡ offered (bundles.abs b) (length l)
     answer-is = ap (λ (r : Reply). r .answer) reply-is ∙ next-answer (bundles.abs b) (length l) k (abs t)
 
-    here-lent : (out : List ℕ) → out ≡ lent (offered (bundles.abs b) (length l)) l → out ≡ nextLentIn t k l
-    unfolding nextLentIn
-    here-lent out e = e ∙ ap (λ (a : Answer). lent a l) (sym answer-is)
+    here-lent : (out : List ℕ) → out ≡ lent (offered (bundles.abs b) (length l)) l → out ≡ nextLent t k l
+    here-lent out e = lent-is out (e ∙ ap (λ (a : Answer). lent a l) (sym answer-is))
 
-    kept-is : (x : Offer) → x ≡ offerOf (offered (bundles.abs b) (length l)) → x .some ≡ 0 → _≡_ {A = Popped} (record { table = t; code = x .code; some = 0; len = 0 }) (nextIn t k l)
-    unfolding nextIn
+    left-is : (x : Offer) (u : Table) → x ≡ offerOf (offered (bundles.abs b) (length l)) → u ≡ repr (nextBundleS k (length l) (abs t) .state)
+        → _≡_ {A = Popped} (record { table = u; code = x .code; some = x .some; len = x .len }) (Calls.nextOf t k l)
+    left-is x u e f =
+        next-is
+        (record { table = u; code = x .code; some = x .some; len = x .len })
+        ((λ i. record { table = f i; code = e i .code; some = e i .some; len = e i .len })
+        ∙ ap (λ (y : Answer). record { table = repr (nextBundleS k (length l) (abs t) .state); code = codeOf y; some = someOf y; len = lengthOf y }) (sym answer-is))
+
+    kept-is : (x : Offer) → x ≡ offerOf (offered (bundles.abs b) (length l)) → (x .some ≡ 1 → ⊥)
+        → _≡_ {A = Popped} (record { table = t; code = x .code; some = x .some; len = x .len }) (Calls.nextOf t k l)
     kept-is x e z =
-        let a = offered (bundles.abs b) (length l) in
-        let zero : someOf a ≡ 0 = sym (ap (λ (y : Offer). y .some) e) ∙ z in
-        let st : nextBundleS k (length l) (abs t) .state ≡ abs t = ap (λ (r : Reply). r .state) reply-is ∙ next-kept (bundles.abs b) (length l) k (abs t) zero in
-        let f : t ≡ repr (nextBundleS k (length l) (abs t) .state) = w .form ∙ ap (λ (s : model.State). repr s) (sym st) in
-        let g : 0 ≡ lengthOf a = sym (offered-zero (bundles.abs b) (length l) zero) in
-        let y : 0 ≡ someOf a = sym zero in
-        (λ i. record { table = f i; code = e i .code; some = y i; len = g i })
-        ∙ ap (λ (y : Answer). record { table = repr (nextBundleS k (length l) (abs t) .state); code = codeOf y; some = someOf y; len = lengthOf y }) (sym answer-is)
+        let st : nextBundleS k (length l) (abs t) .state ≡ abs t = ap (λ (r : Reply). r .state) reply-is ∙ next-kept (bundles.abs b) (length l) k (abs t) (λ y. z (ap (λ (o : Offer). o .some) e ∙ y)) in
+        left-is x t e (test-wf t g .form ∙ ap (λ (s : model.State). repr s) (sym st))
 
-    gone-is : (x : Offer) (u : Table) → x ≡ offerOf (offered (bundles.abs b) (length l)) → (x .some ≡ 0 → ⊥) → u ≡ repr (model.withProtocol (popped k (drop 1 (bundles.abs b)) (abs t .protocol)) (abs t))
-        → _≡_ {A = Popped} (record { table = u; code = 0; some = 1; len = x .len }) (nextIn t k l)
-    unfolding nextIn
+    gone-is : (x : Offer) (u : Table) → x ≡ offerOf (offered (bundles.abs b) (length l)) → x .some ≡ 1 → u ≡ repr (model.withProtocol (popped k (drop 1 (bundles.abs b)) (abs t .protocol)) (abs t))
+        → _≡_ {A = Popped} (record { table = u; code = x .code; some = x .some; len = x .len }) (Calls.nextOf t k l)
     gone-is x u e z q =
-        let a = offered (bundles.abs b) (length l) in
-        let one : someOf a ≡ 0 → ⊥ = λ y. z (ap (λ (y : Offer). y .some) e ∙ y) in
-        let st : nextBundleS k (length l) (abs t) .state ≡ model.withProtocol (popped k (drop 1 (bundles.abs b)) (abs t .protocol)) (abs t) = ap (λ (r : Reply). r .state) reply-is ∙ next-gone (bundles.abs b) (length l) k (abs t) one in
-        let f : u ≡ repr (nextBundleS k (length l) (abs t) .state) = q ∙ ap (λ (s : model.State). repr s) (sym st) in
-        let o : bundle (bundles.front (bundles.abs b)) ≡ a = sym (offered-one (bundles.abs b) (length l) one) in
-        (λ i. record { table = f i; code = codeOf (o i); some = someOf (o i); len = x .len })
-        ∙ (λ i. record { table = repr (nextBundleS k (length l) (abs t) .state); code = codeOf a; some = someOf a; len = e i .len })
-        ∙ ap (λ (y : Answer). record { table = repr (nextBundleS k (length l) (abs t) .state); code = codeOf y; some = someOf y; len = lengthOf y }) (sym answer-is)
+        let st : nextBundleS k (length l) (abs t) .state ≡ model.withProtocol (popped k (drop 1 (bundles.abs b)) (abs t .protocol)) (abs t) = ap (λ (r : Reply). r .state) reply-is ∙ next-gone (bundles.abs b) (length l) k (abs t) (sym (ap (λ (o : Offer). o .some) e) ∙ z) in
+        left-is x u e (q ∙ ap (λ (s : model.State). repr s) (sym st))
 
 -- ---- an on-channel
 
@@ -217,136 +209,177 @@ onBundles c b =
       queue = c .queue;
     }
 
-module _ (t : Table) (k : Key) (w : Wf t) (i at : ℕ) (d : OnChannel) (x : i ≡ keyIndex k) (q : at ≡ placeOn (k .address) i (abs t)) (h : at < t .oncount) where
+module _ (t : Table) (k : Key) (at : ℕ) (d : OnChannel) (h : OnSpot t k at) where
+  on-wf : Wf t
+  on-wf = test-wf t (h .form)
+
+  on-stands : getD (t .ons) at d ≡ reprOn (keyOn k (abs t .protocol))
+  on-stands = on-standing t on-wf k (keyIndex k) at refl (h .here) (h .below) d
+
+  on-below : keyPlaceOn k (abs t) < t .oncount
+  on-below = on-standing-below t on-wf k (keyIndex k) at refl (h .here) (h .below)
+
   on-few : Fits (keyOn k (abs t .protocol) .off)
-  on-few = fits-parts (keyOn k (abs t .protocol) .off) (on-data (keyOn k (abs t .protocol)) (on-key-fits t w k))
+  on-few = fits-parts (keyOn k (abs t .protocol) .off) (on-data (keyOn k (abs t .protocol)) (on-key-fits t on-wf k))
 
-  pub on-bundles-wf : bundles.Wf (getD (t .ons) at d .bundles)
-  on-bundles-wf = let g = keyOn k (abs t .protocol) .off .bundles in rw (on-standing t w k i at x q h d) (wf-repr g (on-few .bundles) (on-few .handles))
-
-  on-bundles : bundles.abs (getD (t .ons) at d .bundles) ≡ keyOn k (abs t .protocol) .off .bundles
-  on-bundles = ap (λ (c : OnChannel). bundles.abs (c .bundles)) (on-standing t w k i at x q h d) ∙ abs-repr (keyOn k (abs t .protocol) .off .bundles) (on-few .bundles) (on-few .handles)
+  on-bundles-wf : bundles.Wf (getD (t .ons) at d .bundles)
+  on-bundles-wf = let g = keyOn k (abs t .protocol) .off .bundles in rw on-stands (wf-repr g (on-few .bundles) (on-few .handles))
 
   on-same : k .on ≡ 1 → bundles.abs (getD (t .ons) at d .bundles) ≡ dataOf k (abs t .protocol) .bundles
-  on-same o = on-bundles ∙ ap (λ (x : model.OffData). x .bundles) (sym (on-key-data k (abs t .protocol) o))
+  on-same o =
+      ap (λ (c : OnChannel). bundles.abs (c .bundles)) on-stands
+      ∙ abs-repr (keyOn k (abs t .protocol) .off .bundles) (on-few .bundles) (on-few .handles)
+      ∙ ap (λ (x : model.OffData). x .bundles) (sym (on-key-data k (abs t .protocol) o))
 
   on-popped : (r : Bundles) → k .on ≡ 1 → r ≡ bundles.repr (drop 1 (bundles.abs (getD (t .ons) at d .bundles)))
       → storeOn t (t .oncount) at (onBundles (getD (t .ons) at d) r) ≡ repr (model.withProtocol (popped k (drop 1 (bundles.abs (getD (t .ons) at d .bundles))) (abs t .protocol)) (abs t))
   on-popped r o y =
       let p = abs t .protocol in
       let bs = drop 1 (bundles.abs (getD (t .ons) at d .bundles)) in
-      let key = key-placed k (abs t) i at x q in
-      let here = on-standing t w k i at x q h d in
-      (λ j. storeOn t (t .oncount) (key j) (onBundles (here j) (y j)))
-      ∙ on-key-store t w k o (on-standing-below t w k i at x q h) (model.withBundles bs (keyOn k p .off))
+      (λ j. storeOn t (t .oncount) (h .here j) (onBundles (on-stands j) (y j)))
+      ∙ on-key-store t on-wf k o on-below (model.withBundles bs (keyOn k p .off))
       ∙ ap (λ (x : model.OffData). repr (model.withProtocol (putData k (model.withBundles bs x) p) (abs t))) (sym (on-key-data k p o))
-
-pub on-next-absent : (t : Table) (k : Key) (l : List ℕ) (i at : ℕ) → Wf t → keyMade k ≡ true → k .on ≡ 1 → i ≡ keyIndex k → at ≡ placeOn (k .address) i (abs t) → t .oncount ≤ at
-    → _≡_ {A = Popped} (record { table = t; code = 13; some = 0; len = 0 }) (nextIn t k l)
-on-next-absent t k l i at w v o x q h = absent-is t k l w v (on-key-absent t w k o (omega (arith, key-placed k (abs t) i at x q)))
-
-pub on-lent-absent : (t : Table) (k : Key) (l : List ℕ) (i at : ℕ) → Wf t → keyMade k ≡ true → k .on ≡ 1 → i ≡ keyIndex k → at ≡ placeOn (k .address) i (abs t) → t .oncount ≤ at → l ≡ nextLentIn t k l
-on-lent-absent t k l i at w v o x q h = absent-lent t k l w v (on-key-absent t w k o (omega (arith, key-placed k (abs t) i at x q)))
-
-pub on-next-kept : (t : Table) (k : Key) (l : List ℕ) (i at : ℕ) (d : OnChannel) (x : Offer) → Wf t → keyMade k ≡ true → k .on ≡ 1 → i ≡ keyIndex k → at ≡ placeOn (k .address) i (abs t) → at < t .oncount
-    → x ≡ offerOf (offered (bundles.abs (getD (t .ons) at d .bundles)) (length l)) → x .some ≡ 0 → _≡_ {A = Popped} (record { table = t; code = x .code; some = 0; len = 0 }) (nextIn t k l)
-on-next-kept t k l i at d x w v o y p h q z = kept-is t k l w v (getD (t .ons) at d .bundles) (on-key-there t w k o (on-standing-below t w k i at y p h)) (on-same t k w i at d y p h o) x q z
-
-pub on-lent-here : (t : Table) (k : Key) (l : List ℕ) (i at : ℕ) (d : OnChannel) (out : List ℕ) → Wf t → keyMade k ≡ true → k .on ≡ 1 → i ≡ keyIndex k → at ≡ placeOn (k .address) i (abs t) → at < t .oncount
-    → out ≡ lent (offered (bundles.abs (getD (t .ons) at d .bundles)) (length l)) l → out ≡ nextLentIn t k l
-on-lent-here t k l i at d out w v o y p h q = here-lent t k l w v (getD (t .ons) at d .bundles) (on-key-there t w k o (on-standing-below t w k i at y p h)) (on-same t k w i at d y p h o) out q
-
-pub on-next-gone : (t : Table) (k : Key) (l : List ℕ) (i at : ℕ) (d : OnChannel) (x : Offer) (r : Bundles) → Wf t → keyMade k ≡ true → k .on ≡ 1 → i ≡ keyIndex k → at ≡ placeOn (k .address) i (abs t) → at < t .oncount
-    → x ≡ offerOf (offered (bundles.abs (getD (t .ons) at d .bundles)) (length l)) → (x .some ≡ 0 → ⊥) → r ≡ bundles.repr (drop 1 (bundles.abs (getD (t .ons) at d .bundles)))
-    → _≡_ {A = Popped} (record { table = storeOn t (t .oncount) at (onBundles (getD (t .ons) at d) r); code = 0; some = 1; len = x .len }) (nextIn t k l)
-on-next-gone t k l i at d x r w v o y p h q z f =
-    gone-is t k l w v (getD (t .ons) at d .bundles) (on-key-there t w k o (on-standing-below t w k i at y p h)) (on-same t k w i at d y p h o) x (storeOn t (t .oncount) at (onBundles (getD (t .ons) at d) r)) q z (on-popped t k w i at d y p h r o f)
 
 -- ---- an off-channel
 
 abbrev offBundles : OffChannel → Bundles → OffChannel
 offBundles c b = record { address = c .address; out = c .out; acks = c .acks; groups = c .groups; bundles = b }
 
-module _ (t : Table) (k : Key) (w : Wf t) (at : ℕ) (d : OffChannel) (e : at ≡ keyPlaceOff k (abs t)) (h : at < t .offcount) where
+module _ (t : Table) (k : Key) (at : ℕ) (d : OffChannel) (h : OffSpot t k at) where
+  off-wf : Wf t
+  off-wf = test-wf t (h .form)
+
+  off-stands : getD (t .offs) at d ≡ reprOff (keyOff k (abs t .protocol))
+  off-stands = off-standing t off-wf k at (h .here) (h .below) d
+
+  off-below : keyPlaceOff k (abs t) < t .offcount
+  off-below = off-standing-below t off-wf k at (h .here) (h .below)
+
   off-few : Fits (keyOff k (abs t .protocol) .off)
-  off-few = fits-parts (keyOff k (abs t .protocol) .off) (off-key-fits t w k)
+  off-few = fits-parts (keyOff k (abs t .protocol) .off) (off-key-fits t off-wf k)
 
-  pub off-bundles-wf : bundles.Wf (getD (t .offs) at d .bundles)
-  off-bundles-wf = let g = keyOff k (abs t .protocol) .off .bundles in rw (off-standing t w k at e h d) (wf-repr g (off-few .bundles) (off-few .handles))
-
-  off-bundles : bundles.abs (getD (t .offs) at d .bundles) ≡ keyOff k (abs t .protocol) .off .bundles
-  off-bundles = ap (λ (c : OffChannel). bundles.abs (c .bundles)) (off-standing t w k at e h d) ∙ abs-repr (keyOff k (abs t .protocol) .off .bundles) (off-few .bundles) (off-few .handles)
+  off-bundles-wf : bundles.Wf (getD (t .offs) at d .bundles)
+  off-bundles-wf = let g = keyOff k (abs t .protocol) .off .bundles in rw off-stands (wf-repr g (off-few .bundles) (off-few .handles))
 
   off-same : (k .on ≡ 1 → ⊥) → bundles.abs (getD (t .offs) at d .bundles) ≡ dataOf k (abs t .protocol) .bundles
-  off-same o = off-bundles ∙ ap (λ (x : model.OffData). x .bundles) (sym (off-key-data k (abs t .protocol) o))
+  off-same o =
+      ap (λ (c : OffChannel). bundles.abs (c .bundles)) off-stands
+      ∙ abs-repr (keyOff k (abs t .protocol) .off .bundles) (off-few .bundles) (off-few .handles)
+      ∙ ap (λ (x : model.OffData). x .bundles) (sym (off-key-data k (abs t .protocol) o))
 
   off-popped : (r : Bundles) → (k .on ≡ 1 → ⊥) → r ≡ bundles.repr (drop 1 (bundles.abs (getD (t .offs) at d .bundles)))
       → storeOff t (t .offcount) at (offBundles (getD (t .offs) at d) r) ≡ repr (model.withProtocol (popped k (drop 1 (bundles.abs (getD (t .offs) at d .bundles))) (abs t .protocol)) (abs t))
-  off-popped r o q =
+  off-popped r o y =
       let p = abs t .protocol in
       let bs = drop 1 (bundles.abs (getD (t .offs) at d .bundles)) in
-      let here = off-standing t w k at e h d in
-      (λ i. storeOff t (t .offcount) (e i) (offBundles (here i) (q i)))
-      ∙ off-key-store t w k o (off-standing-below t w k at e h) (model.withBundles bs (keyOff k p .off))
+      (λ j. storeOff t (t .offcount) (h .here j) (offBundles (off-stands j) (y j)))
+      ∙ off-key-store t off-wf k o off-below (model.withBundles bs (keyOff k p .off))
       ∙ ap (λ (x : model.OffData). repr (model.withProtocol (putData k (model.withBundles bs x) p) (abs t))) (sym (off-key-data k p o))
 
-pub off-next-absent : (t : Table) (k : Key) (l : List ℕ) (at : ℕ) → Wf t → keyMade k ≡ true → (k .on ≡ 1 → ⊥) → at ≡ keyPlaceOff k (abs t) → t .offcount ≤ at
-    → _≡_ {A = Popped} (record { table = t; code = 13; some = 0; len = 0 }) (nextIn t k l)
-off-next-absent t k l at w v o e h = absent-is t k l w v (off-key-absent t w k o (omega (arith, e)))
+-- ---- the place: 1, 2, 13, and the channel of the key
 
-pub off-lent-absent : (t : Table) (k : Key) (l : List ℕ) (at : ℕ) → Wf t → keyMade k ≡ true → (k .on ≡ 1 → ⊥) → at ≡ keyPlaceOff k (abs t) → t .offcount ≤ at → l ≡ nextLentIn t k l
-off-lent-absent t k l at w v o e h = absent-lent t k l w v (off-key-absent t w k o (omega (arith, e)))
+spot-refused : (t : Table) (k : Key) (n : ℕ) → (n ≡ 0 → ⊥) → ((l : List ℕ) → Refusing t k n l) → Spotted t k (record { code = n; at = 0 })
+spot-refused t k n h f = record { refused = λ z. f; on = λ z. absurd (h z); off = λ z. absurd (h z) }
 
-pub off-next-kept : (t : Table) (k : Key) (l : List ℕ) (at : ℕ) (d : OffChannel) (x : Offer) → Wf t → keyMade k ≡ true → (k .on ≡ 1 → ⊥) → at ≡ keyPlaceOff k (abs t) → at < t .offcount
-    → x ≡ offerOf (offered (bundles.abs (getD (t .offs) at d .bundles)) (length l)) → x .some ≡ 0 → _≡_ {A = Popped} (record { table = t; code = x .code; some = 0; len = 0 }) (nextIn t k l)
-off-next-kept t k l at d x w v o e h q z = kept-is t k l w v (getD (t .offs) at d .bundles) (off-key-there t w k o (off-standing-below t w k at e h)) (off-same t k w at d e h o) x q z
+pub spot-one : (t : Table) (k : Key) (x : Bool) → x ≡ wfb t → not x ≡ true → Spotted t k (record { code = 1; at = 0 })
+unfolding Calls.nextOf nextLent
+spot-one t k x e h =
+    let r : (l : List ℕ) → called (nextBundle k l) t ≡ record { answer = answerOne (nextBundle k l); table = t } = λ l. called-refused (nextBundle k l) t (sym e ∙ not-true x h) in
+    spot-refused t k 1 (λ z. omega (arith, z)) (λ l. record { answers = ap (λ (o : Outcome). poppedOf o) (sym (r l)); leaves = ap (λ (o : Outcome). lent (o .answer) l) (sym (r l)) })
 
-pub off-lent-here : (t : Table) (k : Key) (l : List ℕ) (at : ℕ) (d : OffChannel) (out : List ℕ) → Wf t → keyMade k ≡ true → (k .on ≡ 1 → ⊥) → at ≡ keyPlaceOff k (abs t) → at < t .offcount
-    → out ≡ lent (offered (bundles.abs (getD (t .offs) at d .bundles)) (length l)) l → out ≡ nextLentIn t k l
-off-lent-here t k l at d out w v o e h q = here-lent t k l w v (getD (t .offs) at d .bundles) (off-key-there t w k o (off-standing-below t w k at e h)) (off-same t k w at d e h o) out q
+module _ (t : Table) (k : Key) (x : Bool) (e : x ≡ wfb t) (h : not x ≡ false) where
+  test : wfb t ≡ true
+  test = sym e ∙ not-false x h
 
-pub off-next-gone : (t : Table) (k : Key) (l : List ℕ) (at : ℕ) (d : OffChannel) (x : Offer) (r : Bundles) → Wf t → keyMade k ≡ true → (k .on ≡ 1 → ⊥) → at ≡ keyPlaceOff k (abs t) → at < t .offcount
-    → x ≡ offerOf (offered (bundles.abs (getD (t .offs) at d .bundles)) (length l)) → (x .some ≡ 0 → ⊥) → r ≡ bundles.repr (drop 1 (bundles.abs (getD (t .offs) at d .bundles)))
-    → _≡_ {A = Popped} (record { table = storeOff t (t .offcount) at (offBundles (getD (t .offs) at d) r); code = 0; some = 1; len = x .len }) (nextIn t k l)
-off-next-gone t k l at d x r w v o e h q z y =
-    gone-is t k l w v (getD (t .offs) at d .bundles) (off-key-there t w k o (off-standing-below t w k at e h)) (off-same t k w at d e h o) x (storeOff t (t .offcount) at (offBundles (getD (t .offs) at d) r)) q z (off-popped t k w at d e h r o y)
+  pub spot-two : (y : Bool) → y ≡ keyMade k → not y ≡ true → Spotted t k (record { code = 2; at = 0 })
+  spot-two y q n = spot-refused t k 2 (λ z. omega (arith, z)) (λ l. refusing t k l test outOfRange (reply-malformed k (length l) (abs t) (sym q ∙ not-true y n)))
 
-pub ruleset handing =
-    (on-next-absent, on-lent-absent, on-next-kept, on-lent-here, on-next-gone, on-bundles-wf, on-index, off-next-absent, off-lent-absent, off-next-kept, off-lent-here, off-next-gone, off-bundles-wf, off-index, length-of-map, needs)
+  module _ (y : Bool) (q : y ≡ keyMade k) (n : not y ≡ false) where
+    key-made : keyMade k ≡ true
+    key-made = sym q ∙ not-false y n
 
--- ---- the call: 1, 2, and the channel of the key
+    absent : hasKey k (abs t .protocol) ≡ false → Spotted t k (record { code = 13; at = 0 })
+    absent a = spot-refused t k 13 (λ z. omega (arith, z)) (λ l. refusing t k l test channelAbsent (reply-absent k (length l) (abs t) key-made a))
 
-pub next-refused : (t : Table) (k : Key) (l : List ℕ) (x : Bool) → x ≡ wfb t → not x ≡ true → _≡_ {A = Popped} (record { table = t; code = 1; some = 0; len = 0 }) (Calls.nextOf t k l)
-unfolding Calls.nextOf
-next-refused t k l x e h = ap (λ (o : Outcome). poppedOf o) (sym (called-refused (nextBundle k l) t (sym e ∙ not-true x h)))
+    pub spot-on-absent : (i at : ℕ) → k .on ≡ 1 → i ≡ keyIndex k → at ≡ placeOn (k .address) i (abs t) → t .oncount ≤ at → Spotted t k (record { code = 13; at = 0 })
+    spot-on-absent i at o z p b = absent (on-key-absent t (test-wf t test) k o (omega (arith, b, key-placed k (abs t) i at z p)))
 
-pub lent-refused : (t : Table) (k : Key) (l : List ℕ) (x : Bool) → x ≡ wfb t → not x ≡ true → l ≡ nextLent t k l
-unfolding nextLent
-lent-refused t k l x e h = ap (λ (o : Outcome). lent (o .answer) l) (sym (called-refused (nextBundle k l) t (sym e ∙ not-true x h)))
+    pub spot-on : (i at : ℕ) → k .on ≡ 1 → i ≡ keyIndex k → at ≡ placeOn (k .address) i (abs t) → at < t .oncount → Spotted t k (record { code = 0; at = at })
+    spot-on i at o z p b =
+        record {
+          refused = λ r. absurd (r refl);
+          on = λ r s. record { form = test; made = key-made; here = key-placed k (abs t) i at z p; below = b };
+          off = λ r s. absurd (s o);
+        }
 
-module _ (t : Table) (k : Key) (l : List ℕ) (x : Bool) (e : x ≡ wfb t) (h : not x ≡ false) where
-  next-granted : called (nextBundle k l) t ≡ tableReply (nextBundleS k (length l) (abs t))
-  unfolding reply
-  next-granted = called-granted (nextBundle k l) t (sym e ∙ not-false x h)
+    pub spot-off-absent : (at : ℕ) → (k .on ≡ 1 → ⊥) → at ≡ keyPlaceOff k (abs t) → t .offcount ≤ at → Spotted t k (record { code = 13; at = 0 })
+    spot-off-absent at o p b = absent (off-key-absent t (test-wf t test) k o (omega (arith, b, p)))
 
-  pub next-is : (r : Popped) → r ≡ nextIn t k l → r ≡ Calls.nextOf t k l
-  unfolding Calls.nextOf nextIn
-  next-is r q = q ∙ ap (λ (o : Outcome). poppedOf o) (sym next-granted)
+    pub spot-off : (at : ℕ) → (k .on ≡ 1 → ⊥) → at ≡ keyPlaceOff k (abs t) → at < t .offcount → Spotted t k (record { code = 0; at = at })
+    spot-off at o p b =
+        record {
+          refused = λ r. absurd (r refl);
+          on = λ r s. absurd (o s);
+          off = λ r s. record { form = test; made = key-made; here = p; below = b };
+        }
 
-  pub lent-is : (out : List ℕ) → out ≡ nextLentIn t k l → out ≡ nextLent t k l
-  unfolding nextLent nextLentIn
-  lent-is out q = q ∙ ap (λ (o : Outcome). lent (o .answer) l) (sym next-granted)
+pub ruleset spotting = (spot-one, spot-two, spot-on-absent, spot-on, spot-off-absent, spot-off, tested, key-tested, needs)
 
-  pub next-malformed : (y : Bool) → y ≡ keyMade k → not y ≡ true → _≡_ {A = Popped} (record { table = t; code = 2; some = 0; len = 0 }) (Calls.nextOf t k l)
-  unfolding nextIn
-  next-malformed y q n =
-      let w : Wf t = test-wf t (sym e ∙ not-false x h) in
-      next-is
-      (record { table = t; code = 2; some = 0; len = 0 })
-      ((λ i. record { table = w .form i; code = 2; some = 0; len = 0 }) ∙ ap (λ (r : Reply). poppedOf (tableReply r)) (sym (reply-malformed k (length l) (abs t) (sym q ∙ not-true y n))))
+-- ---- the call
 
-  pub lent-malformed : (y : Bool) → y ≡ keyMade k → not y ≡ true → l ≡ nextLent t k l
-  unfolding nextLentIn
-  lent-malformed y q n = lent-is l (ap (λ (r : Reply). lent (r .answer) l) (sym (reply-malformed k (length l) (abs t) (sym q ∙ not-true y n))))
+pub next-refused : (t : Table) (k : Key) (s : Spot) (l : List ℕ) → Spotted t k s → (s .code ≡ 0 → ⊥) → _≡_ {A = Popped} (record { table = t; code = s .code; some = 0; len = 0 }) (Calls.nextOf t k l)
+next-refused t k s l p z = p .refused z l .answers
 
-pub ruleset answering = (next-refused, lent-refused, next-malformed, lent-malformed, next-is, lent-is, tested, key-tested, needs)
+pub lent-refused : (t : Table) (k : Key) (s : Spot) (l : List ℕ) → Spotted t k s → (s .code ≡ 0 → ⊥) → l ≡ nextLent t k l
+lent-refused t k s l p z = p .refused z l .leaves
+
+module _ (t : Table) (k : Key) (s : Spot) (p : Spotted t k s) (z : s .code ≡ 0) where
+  module _ (o : k .on ≡ 1) where
+    pub on-at : s .at < 8
+    on-at = on-index t (s .at) (test-wf t (p .on z o .form)) (p .on z o .below)
+
+    module _ (d : OnChannel) where
+      pub on-waiting : bundles.Wf (getD (t .ons) (s .at) d .bundles)
+      on-waiting = on-bundles-wf t k (s .at) d (p .on z o)
+
+      module _ (l : List ℕ) where
+        on-there : hasKey k (abs t .protocol) ≡ true
+        on-there = on-key-there t (test-wf t (p .on z o .form)) k o (on-below t k (s .at) d (p .on z o))
+
+        pub on-lent : (out : List ℕ) → out ≡ lent (offered (bundles.abs (getD (t .ons) (s .at) d .bundles)) (length l)) l → out ≡ nextLent t k l
+        on-lent out y = here-lent t k l (p .on z o .form) (p .on z o .made) (getD (t .ons) (s .at) d .bundles) on-there (on-same t k (s .at) d (p .on z o) o) out y
+
+        pub on-kept : (x : Offer) → x ≡ offerOf (offered (bundles.abs (getD (t .ons) (s .at) d .bundles)) (length l)) → (x .some ≡ 1 → ⊥)
+            → _≡_ {A = Popped} (record { table = t; code = x .code; some = x .some; len = x .len }) (Calls.nextOf t k l)
+        on-kept x e w = kept-is t k l (p .on z o .form) (p .on z o .made) (getD (t .ons) (s .at) d .bundles) on-there (on-same t k (s .at) d (p .on z o) o) x e w
+
+        pub on-gone : (x : Offer) (r : Bundles) → x ≡ offerOf (offered (bundles.abs (getD (t .ons) (s .at) d .bundles)) (length l)) → x .some ≡ 1 → r ≡ bundles.repr (drop 1 (bundles.abs (getD (t .ons) (s .at) d .bundles)))
+            → _≡_ {A = Popped} (record { table = storeOn t (t .oncount) (s .at) (onBundles (getD (t .ons) (s .at) d) r); code = x .code; some = x .some; len = x .len }) (Calls.nextOf t k l)
+        on-gone x r e w q =
+            gone-is t k l (p .on z o .form) (p .on z o .made) (getD (t .ons) (s .at) d .bundles) on-there (on-same t k (s .at) d (p .on z o) o) x (storeOn t (t .oncount) (s .at) (onBundles (getD (t .ons) (s .at) d) r)) e w (on-popped t k (s .at) d (p .on z o) r o q)
+
+  module _ (o : k .on ≡ 1 → ⊥) where
+    pub off-at : s .at < 4
+    off-at = off-index t (s .at) (test-wf t (p .off z o .form)) (p .off z o .below)
+
+    module _ (d : OffChannel) where
+      pub off-waiting : bundles.Wf (getD (t .offs) (s .at) d .bundles)
+      off-waiting = off-bundles-wf t k (s .at) d (p .off z o)
+
+      module _ (l : List ℕ) where
+        off-there : hasKey k (abs t .protocol) ≡ true
+        off-there = off-key-there t (test-wf t (p .off z o .form)) k o (off-below t k (s .at) d (p .off z o))
+
+        pub off-lent : (out : List ℕ) → out ≡ lent (offered (bundles.abs (getD (t .offs) (s .at) d .bundles)) (length l)) l → out ≡ nextLent t k l
+        off-lent out y = here-lent t k l (p .off z o .form) (p .off z o .made) (getD (t .offs) (s .at) d .bundles) off-there (off-same t k (s .at) d (p .off z o) o) out y
+
+        pub off-kept : (x : Offer) → x ≡ offerOf (offered (bundles.abs (getD (t .offs) (s .at) d .bundles)) (length l)) → (x .some ≡ 1 → ⊥)
+            → _≡_ {A = Popped} (record { table = t; code = x .code; some = x .some; len = x .len }) (Calls.nextOf t k l)
+        off-kept x e w = kept-is t k l (p .off z o .form) (p .off z o .made) (getD (t .offs) (s .at) d .bundles) off-there (off-same t k (s .at) d (p .off z o) o) x e w
+
+        pub off-gone : (x : Offer) (r : Bundles) → x ≡ offerOf (offered (bundles.abs (getD (t .offs) (s .at) d .bundles)) (length l)) → x .some ≡ 1 → r ≡ bundles.repr (drop 1 (bundles.abs (getD (t .offs) (s .at) d .bundles)))
+            → _≡_ {A = Popped} (record { table = storeOff t (t .offcount) (s .at) (offBundles (getD (t .offs) (s .at) d) r); code = x .code; some = x .some; len = x .len }) (Calls.nextOf t k l)
+        off-gone x r e w q =
+            gone-is t k l (p .off z o .form) (p .off z o .made) (getD (t .offs) (s .at) d .bundles) off-there (off-same t k (s .at) d (p .off z o) o) x (storeOff t (t .offcount) (s .at) (offBundles (getD (t .offs) (s .at) d) r)) e w (off-popped t k (s .at) d (p .off z o) r o q)
+
+pub ruleset answering = (next-refused, lent-refused, on-at, on-waiting, on-lent, on-kept, on-gone, off-at, off-waiting, off-lent, off-kept, off-gone, length-of-map, needs)

@@ -9,24 +9,27 @@ use channel::OnChannel;
 use packet::Key;
 use table::Table;
 ghost use mathlib.Core.Path.{_≡_};
-ghost use mathlib.Core.Bool.{true};
 ghost use mathlib.Core.List.{map};
 ghost use lib.ListN.{length, take};
 ghost use Rattle.lists.specs.Find.{has};
-ghost use Rattle.packet.specs.Data.{keyMade};
 ghost use Rattle.model.specs.Calls as model;
 ghost use Rattle.model.specs.Rust.{holdsOff, holdsOn};
 ghost use Rattle.bundles.specs.Bundles as waiting;
 ghost use Rattle.channel.specs.Channel.{absOff, absOn};
-ghost use Rattle.table.specs.Table.{Wf};
 ghost use Rattle.calls.specs.Calls.{nextOf, nextLent, holdsOf, lastPrefix, resetOf, transferOf};
-ghost use Rattle.handout.specs.Handout.{offered, offerOf, nextIn, nextLentIn, OffsWf, OnsWf};
+ghost use Rattle.handout.specs.Handout.{offered, offerOf, Spotted, OffsWf, OnsWf};
 
 // What comes of a channel's bundles: the refusal's number or 0, whether one is handed out, and its length.
 pub struct Offer {
     pub code: u32,
     pub some: u32,
     pub len: u32,
+}
+
+// The refusal's number, or 0 with the place of the channel.
+pub struct Spot {
+    pub code: u32,
+    pub at: usize,
 }
 
 // ---- next bundle
@@ -60,109 +63,70 @@ fn hand_out(b: Bundles, lent: &mut [u32]) -> Offer
     }
 }
 
-// A bundle that is handed out is gone from its channel.
-fn next_on(t: Table, k: Key, lent: &mut [u32]) -> Popped
-    requires { ⌜ Wf t × (keyMade k ≡ true) × (k .on ≡ 1) ⌝ }
-    ensures { λ r. ⌜ r ≡ nextIn t k (now (lent .entry)) ⌝ }
-    ensures { λ r. ⌜ now (lent .exit) ≡ nextLentIn t k (now (lent .entry)) ⌝ }
+// Refusals 1, 2 and 13 from the table and the key alone, or the place of the key's channel.
+fn spot_of(t: Table, k: Key) -> Spot
+    ensures { λ r. ⌜ Spotted t k r ⌝ }
 {
-    let index = calls::index_of(k);
-    let at = calls::on_place(t, k.address, index);
-    if t.oncount as usize <= at {
-        return Popped {
-            table: t,
-            code: 13,
-            some: 0,
-            len: 0,
-        };
+    if !table::well_formed(t) {
+        return Spot { code: 1, at: 0 };
     }
-    let c = t.ons[at];
-    let b = c.bundles;
-    let o = hand_out(b, lent);
-    if o.some == 0 {
-        return Popped {
-            table: t,
-            code: o.code,
-            some: 0,
-            len: 0,
-        };
+    if !k.well_made() {
+        return Spot { code: 2, at: 0 };
     }
-    let rest = bundles::pop_front(b);
-    let mut d = c;
-    d.bundles = rest;
-    let mut u = t;
-    u.ons[at] = d;
-    Popped {
-        table: u,
-        code: 0,
-        some: 1,
-        len: o.len,
+    if k.on == 1 {
+        let index = calls::index_of(k);
+        let at = calls::on_place(t, k.address, index);
+        if t.oncount as usize <= at {
+            return Spot { code: 13, at: 0 };
+        }
+        return Spot { code: 0, at };
     }
-}
-
-fn next_off(t: Table, k: Key, lent: &mut [u32]) -> Popped
-    requires { ⌜ Wf t × (keyMade k ≡ true) × (k .on ≡ 1 → ⊥) ⌝ }
-    ensures { λ r. ⌜ r ≡ nextIn t k (now (lent .entry)) ⌝ }
-    ensures { λ r. ⌜ now (lent .exit) ≡ nextLentIn t k (now (lent .entry)) ⌝ }
-{
     let at = calls::off_place(t, k.address);
     if t.offcount as usize <= at {
-        return Popped {
-            table: t,
-            code: 13,
-            some: 0,
-            len: 0,
-        };
+        return Spot { code: 13, at: 0 };
     }
-    let c = t.offs[at];
-    let b = c.bundles;
-    let o = hand_out(b, lent);
-    if o.some == 0 {
-        return Popped {
-            table: t,
-            code: o.code,
-            some: 0,
-            len: 0,
-        };
-    }
-    let left = bundles::pop_front(b);
-    let mut d = c;
-    d.bundles = left;
-    let mut u = t;
-    u.offs[at] = d;
-    Popped {
-        table: u,
-        code: 0,
-        some: 1,
-        len: o.len,
-    }
+    Spot { code: 0, at }
 }
 
-// The handles of the next bundle of the channel that the key names, written to the lent list from its front.
+// The handles of the next bundle of the channel that the key names, written to the lent list from its front; a bundle that is handed out is
+// gone from its channel. The table leaves by one exit, since each further one would copy it.
 pub fn next_bundle(t: Table, k: Key, lent: &mut [u32]) -> Popped
     ensures { λ r. ⌜ r ≡ nextOf t k (now (lent .entry)) ⌝ }
     ensures { λ r. ⌜ now (lent .exit) ≡ nextLent t k (now (lent .entry)) ⌝ }
 {
-    if !table::well_formed(t) {
-        return Popped {
-            table: t,
-            code: 1,
-            some: 0,
-            len: 0,
-        };
+    let s = spot_of(t, k);
+    let at = s.at;
+    let mut u = t;
+    let mut o = Offer {
+        code: s.code,
+        some: 0,
+        len: 0,
+    };
+    if s.code == 0 {
+        if k.on == 1 {
+            let mut d = u.ons[at];
+            let b = d.bundles;
+            o = hand_out(b, lent);
+            if o.some == 1 {
+                d.bundles = bundles::pop_front(b);
+                u.ons[at] = d;
+            }
+        } else {
+            let mut d = u.offs[at];
+            let b = d.bundles;
+            o = hand_out(b, lent);
+            if o.some == 1 {
+                d.bundles = bundles::pop_front(b);
+                u.offs[at] = d;
+            }
+        }
     }
-    if !k.well_made() {
-        return Popped {
-            table: t,
-            code: 2,
-            some: 0,
-            len: 0,
-        };
+    Popped {
+        table: u,
+        code: o.code,
+        some: o.some,
+        len: o.len,
     }
-    if k.on == 1 {
-        return next_on(t, k, lent);
-    }
-    next_off(t, k, lent)
 }
 
 // ---- held: "in an out list, the buffer, the contiguous queue, a group, or a bundle not yet handed out"
