@@ -188,6 +188,18 @@ module _ {A : Type 0} where
 
   -- ---- no list gets longer, or by one at most
 
+  -- all that a test tells to stay do
+  pub keep-all : (f : A → Bool) (xs : List A) → allb f xs ≡ true → keepBy f xs ≡ xs
+  unfolding keepBy allb
+  keep-all f [] q = refl
+  keep-all f (x ∷ xs) q = rw (and-left (f x) (allb f xs) q) (ap (λ (r : List A). x ∷ r) (keep-all f xs (and-right (f x) (allb f xs) q)))
+
+  -- none stays where another test passes all and shuts it out
+  pub keep-none : (f g : A → Bool) → ((x : A) → g x ≡ true → f x ≡ false) → (xs : List A) → allb g xs ≡ true → keepBy f xs ≡ []
+  unfolding keepBy allb
+  keep-none f g k [] q = refl
+  keep-none f g k (x ∷ xs) q = rw (k x (and-left (g x) (allb g xs) q)) (keep-none f g k xs (and-right (g x) (allb g xs) q))
+
   pub length-remove : (g : A → Bool) (xs : List A) → length (removeFirst g xs) ≤ length xs
   unfolding removeFirst
   length-remove g [] = omega arith

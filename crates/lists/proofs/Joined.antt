@@ -2,10 +2,13 @@
 use mathlib.Core.Path.{_≡_, refl, sym, ap, _∙_}
 use mathlib.Core.List.{List, [], _∷_, _++_, map, append-nil, append-assoc, map-append}
 use Prim.Native.Nat.{ℕ, zero, suc, _+_, _≤_, _<_, zero-le}
-use mathlib.Core.Bool.{Bool, _||_}
+use mathlib.Core.Bool.{Bool, true, _||_}
+use native.Mathlib.Nat.{le-of-suc-le-suc, not-suc-le-zero}
 use native.Mathlib.Omega.{arith}
 use lib.ListN.{length, getD, take, drop, length-append}
+use Rattle.lists.specs.Pad.{pad, allb}
 use Rattle.lists.specs.Find.{has, joined}
+use Rattle.lists.proofs.Pad.{and-left, and-right}
 use Rattle.lists.proofs.Tests.{has-append}
 use Rattle.lists.proofs.Positions.{take-more}
 
@@ -60,3 +63,20 @@ module _ {A B : Type 0} (g : A → List B) where
   joined-part (suc i) [] = omega arith
   joined-part (suc i) (x ∷ xs) =
       omega (arith, joined-part i xs, length-append (g x) (joined (map g (take i xs))), length-append (g x) (joined (map g xs)))
+
+-- nothing to join: of no element, and of the spare places of an array
+module _ {A : Type 0} where
+  pub joined-none : {B : Type 0} (g : A → List B) (f : A → Bool) → ((x : A) → f x ≡ true → g x ≡ []) → (xs : List A) → allb f xs ≡ true → joined (map g xs) ≡ []
+  unfolding joined allb
+  joined-none g f k [] q = refl
+  joined-none g f k (x ∷ xs) q =
+      let a = k x (and-left (f x) (allb f xs) q) in
+      let b = joined-none g f k xs (and-right (f x) (allb f xs) q) in
+      λ j. a j ++ b j
+
+  pub joined-spare : {B : Type 0} (g : A → List B) (z : A) → g z ≡ [] → (n : ℕ) (xs : List A) → length xs ≤ n → joined (map g (pad n z xs)) ≡ joined (map g xs)
+  unfolding joined pad
+  joined-spare g z e zero [] h = refl
+  joined-spare g z e zero (x ∷ xs) h = absurd (not-suc-le-zero h)
+  joined-spare g z e (suc n) [] h = let q = joined-spare g z e n [] (omega arith) in λ j. e j ++ q j
+  joined-spare {B = B} g z e (suc n) (x ∷ xs) h = ap (λ (r : List B). g x ++ r) (joined-spare g z e n xs (le-of-suc-le-suc h))

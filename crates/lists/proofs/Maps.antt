@@ -66,6 +66,13 @@ module _ {A : Type 0} where
       let b = map-kept f h xs k (and-right (f x) (allb f xs) p) in
       λ i. a i ∷ b i
 
+  pub map-fixed : (h : A → A) (z : A) (xs : List A) → ((i : ℕ) → i < length xs → getD xs i z ≡ h (getD xs i z)) → xs ≡ map h xs
+  map-fixed h z [] e = refl
+  map-fixed h z (x ∷ xs) e =
+      let p = e 0 (omega arith) in
+      let q = map-fixed h z xs (λ i k. e (suc i) (omega arith)) in
+      λ j. p j ∷ q j
+
 -- the beginning of a mapped list, where the whole is another mapped list
 pub front-map : (X Y Z : Type 0) (f : X → Z) (g : Y → Z) (xs : List X) (ys : List Z) (zs : List Y) → map f xs ++ ys ≡ map g zs → map f xs ≡ map g (take (length xs) zs)
 front-map X Y Z f g [] ys zs e = refl

@@ -68,6 +68,14 @@ module _ {A : Type 0} where
   take-pad (suc n) z (x ∷ xs) h = ap (λ (r : List A). x ∷ r) (take-pad n z xs (le-of-suc-le-suc h))
 
   -- where the list has n or more, the array is its first n, whatever stands after them
+  -- with no spare place
+  pub pad-full : (n : ℕ) (z : A) (l : List A) → length l ≡ n → l ≡ pad n z l
+  unfolding pad
+  pad-full zero z [] h = refl
+  pad-full zero z (x ∷ l) h = absurd (omega arith)
+  pad-full (suc n) z [] h = absurd (omega arith)
+  pad-full (suc n) z (x ∷ l) h = ap (λ (r : List A). x ∷ r) (pad-full n z l (omega arith))
+
   pub pad-short : (n : ℕ) (z : A) (xs : List A) → n ≤ length xs → pad n z xs ≡ take n xs
   unfolding pad
   pad-short zero z xs h = refl

@@ -1,11 +1,16 @@
 -- One out list, and the turns of the loops over channels of either kind. Assumes nothing.
-use mathlib.Core.Path.{_≡_, ap, sym, subst, _∙_}
-use mathlib.Core.List.{List, map}
+use mathlib.Core.Path.{_≡_, refl, ap, sym, subst, _∙_}
+use mathlib.Core.Bool.{Bool, true, false, not}
+use mathlib.Core.List.{List, _++_, map}
 use Prim.Native.Nat.{ℕ, _+_, _≤_, _<_}
 use native.Mathlib.Omega.{arith}
-use lib.ListN.{length, take, getD, set, length-map}
+use borrow.Author.Tests.{not-false, ltb-true, ltb-false}
+use lib.Dec.{ltb}
+use lib.ListN.{length, take, drop, getD, set, length-map, length-take, List·getD-eq-default}
+use lib.Seq.{take-all}
+use Rattle.lists.specs.Pad.{pad}
 use Rattle.lists.specs.Find.{keepBy, joined, writtenAt}
-use Rattle.lists.proofs.Pad.{length-pad}
+use Rattle.lists.proofs.Pad.{length-pad, pad-full, getD-default, getD-pad}
 use Rattle.lists.proofs.Find.{length-keep}
 use Rattle.packet.specs.declared.OutEntry.{OutEntry}
 use Rattle.packet.specs.declared.Resend.{Resend}
@@ -15,9 +20,10 @@ use Rattle.out_list.specs.declared.OutList.{OutList}
 use Rattle.out_list.specs.Out as out
 use Rattle.out_list.proofs.Form.{wf-le, abs-of, wf-of}
 use Rattle.resends.specs.declared.Listed.{Listed}
-use Rattle.resends.specs.Resends.{listRows, listSent, listed, InForm}
+use Rattle.resends.specs.Resends.{listCalm, listRows, listSent, listed, InForm}
 use Rattle.resends.proofs.Rows.{flat-joined}
-use Rattle.resends.proofs.Loops.{Counting, counting-start, counting-step, Sending, sending-start, sending-read, sending-room, sending-step, sending-lent}
+use Rattle.resends.proofs.Calm.{calm-rows, calm-sent}
+use Rattle.resends.proofs.Loops.{Counting, counting-start, counting-step, Sending, sending-start, sending-read, sending-room, sending-step, sending-skip, sending-lent}
 
 -- ---- one out list
 
@@ -73,9 +79,34 @@ pub record Kind (A : Type 0) : Type 1 where
   pub put : OutList → A → A
   pub Form : A → Type 0
   pub formed : (c : A) → Form c → out.Wf (outOf c)
+  pub back : (c : A) → put (outOf c) c ≡ c
 
 pub form-at : {A : Type 0} (K : Kind A) (N : ℕ) (l : List A) (n : ℕ) → InForm N (K .zero) (K .Form) l n → (i : ℕ) (d : A) → i < n → out.Wf (K .outOf (getD l i d))
 form-at K N l n w i d h = K .formed (getD l i d) (w .each i d h)
+
+-- all places, those past the channels too
+pub whole : {A : Type 0} (K : Kind A) (N : ℕ) (l : List A) (n : ℕ) → InForm N (K .zero) (K .Form) l n → K .Form (K .zero) → InForm N (K .zero) (K .Form) l N
+whole {A = A} K N l n w f =
+    let z = K .zero in
+    let m : length l ≡ N = ap length (w .spare) ∙ length-pad N z (take n l) in
+    record {
+      few = omega arith;
+      each = λ i d h. at i d h (ltb i n) refl;
+      spare = pad-full N z l m ∙ ap (λ (r : List A). pad N z r) (sym (take-all N l (omega arith)));
+    }
+  where
+    past : (i : ℕ) (d : A) → i < N → n ≤ i → getD l i d ≡ K .zero
+    past i d h k =
+        let z = K .zero in
+        let m : length l ≡ N = ap length (w .spare) ∙ length-pad N z (take n l) in
+        getD-default l i d z (omega arith)
+        ∙ ap (λ (r : List A). getD r i z) (w .spare)
+        ∙ getD-pad N z (take n l) i h
+        ∙ List·getD-eq-default (take n l) z {n = i} (omega (arith, length-take n l))
+
+    at : (i : ℕ) (d : A) → i < N → (b : Bool) → ltb i n ≡ b → K .Form (getD l i d)
+    at i d h true p = w .each i d (ltb-true i n p)
+    at i d h false p = subst (λ (c : A). K .Form c) (sym (past i d h (ltb-false i n p))) f
 
 module _ {A : Type 0} (K : Kind A) (t timeout giveUp : ℕ) where
   -- a channel's rows, as numbers, and the channel after it
@@ -127,6 +158,23 @@ module _ {A : Type 0} (K : Kind A) (t timeout giveUp : ℕ) where
             (ap (λ (y : Listed). K .put (y .out) c) e)
             (ap (λ (y : Listed). y .next) e)
             q
+
+        -- the same once the arms have met: the channel was changed, or stays as it is
+        pub sent-went : (d : A) (x : Listed) (lent₁ lent₂ : List ℕ) (r₂ : List A) (k₂ : ℕ) → i < n → x ≡ listed (K .address (getD r i d)) t timeout giveUp (K .outOf (getD r i d)) k
+            → lent₁ ≡ writtenAt k (numbersOf (getD r i d)) lent → lent₂ ≡ lent₁ → r₂ ≡ set r i (K .put (x .out) (getD r i d)) → k₂ ≡ x .next → SendingOf lent₂ r₂ k₂ (i + 1)
+        sent-went d x lent₁ lent₂ r₂ k₂ h e q u v y = rw (u, v, y) (sent-turn d x lent₁ h e q)
+
+        pub sent-stays : (d : A) (b : Bool) (lent₂ : List ℕ) (r₂ : List A) (k₂ : ℕ) → i < n → b ≡ listCalm t timeout giveUp (K .outOf (getD r i d)) → not b ≡ false
+            → lent₂ ≡ lent → r₂ ≡ r → k₂ ≡ k → SendingOf lent₂ r₂ k₂ (i + 1)
+        unfolding flat
+        sent-stays d b lent₂ r₂ k₂ h e q u v y =
+            let c = getD r i d in
+            let p : listCalm t timeout giveUp (K .outOf c) ≡ true = sym e ∙ not-false b q in
+            rw
+            (u, v, y)
+            (sending-skip sentOf numbersOf N (K .zero) l n lent₀ at lent r k i s d h
+            (sym (ap (λ (o : OutList). K .put o c) (calm-sent (K .outOf c) t timeout giveUp p (sent-form d h)) ∙ K .back c))
+            (ap flat (calm-rows (K .outOf c) t timeout giveUp p (K .address c))))
 
         pub sent-lent : n ≤ i → lent ≡ writtenAt at (flat (joined (map rowsOf (take n l)))) lent₀
         sent-lent h =

@@ -1,11 +1,11 @@
 -- The loops over the first n channels of an array, for either kind: the rows are counted; the rows are written and each channel is
 -- changed. Assumes nothing.
-use mathlib.Core.Path.{_≡_, refl, ap, sym, _∙_}
-use mathlib.Core.List.{List, _++_, map}
+use mathlib.Core.Path.{_≡_, refl, ap, sym, subst, _∙_}
+use mathlib.Core.List.{List, [], _++_, map}
 use Prim.Native.Nat.{ℕ, _+_, _*_, _≤_, _<_}
 use native.Mathlib.Omega.{arith}
 use lib.ListN.{length, take, getD, set, length-append, length-take}
-use lib.Seq.{take-all}
+use lib.Seq.{take-all, set-getD}
 use Rattle.lists.specs.Pad.{pad}
 use Rattle.lists.specs.Find.{joined, writtenAt}
 use Rattle.lists.proofs.Pad.{length-pad, getD-default, mix-hi}
@@ -108,6 +108,14 @@ module _ {A : Type 0} (f : A → A) (g : A → List ℕ) (N : ℕ) (z : A) (l : 
               ∙ written-after at w₀ v lent₀ (omega (arith, s .fits))
               ∙ ap (λ (u : List ℕ). writtenAt at u lent₀) (sym more);
         }
+
+    -- a channel that has no rows stays as it is
+    pub sending-skip : (d : A) → i < n → getD r i d ≡ f (getD r i d) → g (getD r i d) ≡ [] → Sending f g N z l n lent₀ at lent r k (i + 1)
+    sending-skip d h p q =
+        subst
+        (λ (x : List A). Sending f g N z l n lent₀ at lent x k (i + 1))
+        (set-getD r i d)
+        (sending-step d (getD r i d) lent k h p (omega (arith, ap length q)) (written-none k lent ∙ ap (λ (w : List ℕ). writtenAt k w lent) (sym q)))
 
     all-of : n ≤ i → take i (take n l) ≡ take n l
     all-of h = take-all i (take n l) (omega (arith, length-take n l))

@@ -1,5 +1,5 @@
 -- The two kinds of channel: what the loops over them begin with and come to. Assumes nothing.
-use mathlib.Core.Path.{_≡_, ap, sym, subst, _∙_}
+use mathlib.Core.Path.{_≡_, refl, ap, sym, subst, _∙_}
 use mathlib.Core.List.{List, map, map-map}
 use Prim.Native.Nat.{ℕ, _+_, _≤_, _<_}
 use native.Mathlib.Omega.{arith}
@@ -33,6 +33,7 @@ offKind =
       put = λ o c. record { address = c .address; out = o; acks = c .acks; groups = c .groups; bundles = c .bundles };
       Form = WfOff;
       formed = λ c w. w .out;
+      back = λ c. refl;
     }
 
 off-sent : (t timeout giveUp : ℕ) (c : OffChannel) → WfOff c → sentOf offKind t timeout giveUp c ≡ reprOff (resentOff t timeout giveUp (absOff c))
@@ -93,6 +94,7 @@ onKind =
       put = λ o c. record { address = c .address; index = c .index; version = c .version; expected = c .expected; source = c .source; out = o; acks = c .acks; groups = c .groups; bundles = c .bundles; buffer = c .buffer; queue = c .queue };
       Form = WfOn;
       formed = λ c w. w .out;
+      back = λ c. refl;
     }
 
 on-sent : (t timeout giveUp : ℕ) (c : OnChannel) → WfOn c → sentOf onKind t timeout giveUp c ≡ reprOn (resentOn t timeout giveUp (absOn c))

@@ -71,7 +71,8 @@ fn quiet(t: Table, time: u64, timeout: u64, give_up: u64) -> bool
     offs_quiet(a, time, timeout, give_up) & ons_quiet(b, time, timeout, give_up)
 }
 
-// ---- how many rows the first n channels have, at most 32 each: a list that lacks room for all rows gets none, so they are counted first
+// ---- how many rows the first n channels have, at most 32 each: a list that lacks room for all rows gets none, so they are counted first.
+// Places past n have none, so all are counted.
 
 fn offs_due(l: [OffChannel; 4], n: usize, time: u64, timeout: u64, give_up: u64) -> u32
     requires { ⌜ OffsWf l n ⌝ }
@@ -80,7 +81,7 @@ fn offs_due(l: [OffChannel; 4], n: usize, time: u64, timeout: u64, give_up: u64)
 {
     let mut count: u32 = 0;
     let mut i: usize = 0;
-    while i < n {
+    while i < 4 {
         let c = l[i];
         let o = c.out;
         let m = out_list::count_due_young(o, time, timeout, give_up);
@@ -97,7 +98,7 @@ fn ons_due(l: [OnChannel; 8], n: usize, time: u64, timeout: u64, give_up: u64) -
 {
     let mut count: u32 = 0;
     let mut i: usize = 0;
-    while i < n {
+    while i < 8 {
         let c = l[i];
         let o = c.out;
         let m = out_list::count_due_young(o, time, timeout, give_up);
@@ -131,7 +132,7 @@ fn resend_list(
     Listed { out: marked, next }
 }
 
-// The first n channels.
+// The first n channels, of which only those that change are moved.
 fn resend_offs(
     l: [OffChannel; 4],
     n: usize,
@@ -152,12 +153,14 @@ fn resend_offs(
     while i < n {
         let c = r[i];
         let o = c.out;
-        let s = resend_list(o, c.address, time, timeout, give_up, lent, k);
-        let sent = s.out;
-        let mut d = c;
-        d.out = sent;
-        r[i] = d;
-        k = s.next;
+        if !out_list::quiet(o, time, timeout, give_up) {
+            let s = resend_list(o, c.address, time, timeout, give_up, lent, k);
+            let sent = s.out;
+            let mut d = c;
+            d.out = sent;
+            r[i] = d;
+            k = s.next;
+        }
         i += 1;
     }
     r
@@ -183,12 +186,14 @@ fn resend_ons(
     while i < n {
         let c = r[i];
         let o = c.out;
-        let s = resend_list(o, c.address, time, timeout, give_up, lent, k);
-        let sent = s.out;
-        let mut d = c;
-        d.out = sent;
-        r[i] = d;
-        k = s.next;
+        if !out_list::quiet(o, time, timeout, give_up) {
+            let s = resend_list(o, c.address, time, timeout, give_up, lent, k);
+            let sent = s.out;
+            let mut d = c;
+            d.out = sent;
+            r[i] = d;
+            k = s.next;
+        }
         i += 1;
     }
     r

@@ -2,7 +2,7 @@ use mathlib.Core.Path.{_∙_, sym}
 use borrow.Author.Needs.{needs}
 use borrow.Author.Tests.{not-false}
 use Rattle.resends.proofs.Door.{unformed-is, unformed-lent, late-is, late-lent}
-use Rattle.resends.proofs.Calm.{quiet-is, quiet-lent}
+use Rattle.resends.proofs.Still.{quiet-is, quiet-lent}
 use Rattle.resends.proofs.take_resends.Statement.{statement}
 use Rattle.resends.proofs.take_resends.Tie as tie
 
