@@ -10,6 +10,7 @@ use lib.Dec.{leb}
 use lib.ListN.{length, length-append}
 use Rattle.lists.specs.Pad.{removeAt, allb}
 use Rattle.lists.specs.Find.{has, findBy, putBy, removeFirst, keepBy}
+use Rattle.lists.proofs.Pad.{and-left, and-right}
 
 module _ {A : Type 0} where
   -- what was put is found
@@ -186,8 +187,6 @@ module _ {A : Type 0} where
       at true p = rw p
       at false p = p
 
-  -- ---- no list gets longer, or by one at most
-
   -- all that a test tells to stay do
   pub keep-all : (f : A → Bool) (xs : List A) → allb f xs ≡ true → keepBy f xs ≡ xs
   unfolding keepBy allb
@@ -199,6 +198,8 @@ module _ {A : Type 0} where
   unfolding keepBy allb
   keep-none f g k [] q = refl
   keep-none f g k (x ∷ xs) q = rw (k x (and-left (g x) (allb g xs) q)) (keep-none f g k xs (and-right (g x) (allb g xs) q))
+
+  -- ---- no list gets longer, or by one at most
 
   pub length-remove : (g : A → Bool) (xs : List A) → length (removeFirst g xs) ≤ length xs
   unfolding removeFirst
