@@ -1,12 +1,12 @@
 -- Find or create: what each return owes, over plain values. Assumes nothing.
 use mathlib.Core.Path.{_≡_, refl, ap, sym, _∙_}
-use mathlib.Core.List.{List, [], _∷_}
 use mathlib.Core.Bool.{Bool, true, false, cond, not}
-use Prim.Native.Nat.{ℕ, zero, suc, _+_, _≤_, _<_}
+use Prim.Native.Nat.{ℕ, _+_, _≤_, _<_}
 use native.Mathlib.Omega.{arith}
 use borrow.Author.Tests.{eq-eqb, ne-eqb, lt-ltb, le-ltb, not-true, not-false}
 use lib.Dec.{ltb}
-use lib.ListN.{length, getD, set}
+use lib.ListN.{getD}
+use lib.Seq.{set-getD}
 use Rattle.packet.specs.declared.Key.{Key}
 use Rattle.packet.specs.declared.View.{View}
 use Rattle.packet.specs.Data.{isSet, keyIndex, keyMade}
@@ -189,12 +189,6 @@ module _ (t : Table) (k : Key) (b m : Bool) (e : b ≡ wfb t) (h : not b ≡ fal
 
 -- ---- what the one exit answers: a refusal, a channel that was made, a channel that is there
 
--- a value stored where it stands
-same : {A : Type 0} (l : List A) (i : ℕ) (z : A) → set l i (getD l i z) ≡ l
-same [] i z = refl
-same (x ∷ l) zero z = refl
-same (x ∷ l) (suc i) z = ap (λ (r : List _). x ∷ r) (same l i z)
-
 module _ (t : Table) (k : Key) (y : Place) (p : Placed t k y) where
   pub exit-refused : (v : View) → (y .code ≡ 0 → ⊥) → v ≡ noView → _≡_ {A = Found} (record { table = t; code = y .code; view = v }) (channelOf t k)
   exit-refused v x q = (λ j. record { table = t; code = y .code; view = q j }) ∙ p .refused x
@@ -235,7 +229,7 @@ module _ (t : Table) (k : Key) (y : Place) (p : Placed t k y) where
         let b = lt-ltb (y .at) (t .oncount) l in
         let d = getD (t .ons) (y .at) z in
         granted t v
-        ((λ j. record { table = record { latest = t .latest; forwarding = t .forwarding; prefix = t .prefix; offset = t .offset; source = t .source; offcount = t .offcount; oncount = t .oncount; offs = t .offs; ons = sym (same (t .ons) (y .at) z) j }; code = 0; view = v })
+        ((λ j. record { table = record { latest = t .latest; forwarding = t .forwarding; prefix = t .prefix; offset = t .offset; source = t .source; offcount = t .offcount; oncount = t .oncount; offs = t .offs; ons = sym (set-getD (t .ons) (y .at) z) j }; code = 0; view = v })
         ∙ find-on-made t k (keyIndex k) (firstVersion k) (y .at) (t .oncount) z d v wf (p .made c) o refl refl (p .on-at c o) (p .on-room c o)
         (sym (ap (λ (x : Bool). cond x d (reprOn (model.newOn (k .address) (keyIndex k) (firstVersion k)))) b))
         vq
@@ -260,7 +254,7 @@ module _ (t : Table) (k : Key) (y : Place) (p : Placed t k y) where
         let q : d ≡ cond (ltb (y .at) (t .offcount)) d (reprOff (model.newOff a)) = sym (ap (λ (x : Bool). cond x d (reprOff (model.newOff a))) b) in
         let g : d ≡ reprOff (keyOff k (abs t .protocol)) = off-taken (abs t) t (wf .form) (wf-fits t wf) a (y .at) z d (p .off-at c o) q in
         granted t v
-        ((λ j. record { table = record { latest = t .latest; forwarding = t .forwarding; prefix = t .prefix; offset = t .offset; source = t .source; offcount = t .offcount; oncount = t .oncount; offs = sym (same (t .offs) (y .at) z) j; ons = t .ons }; code = 0; view = v })
+        ((λ j. record { table = record { latest = t .latest; forwarding = t .forwarding; prefix = t .prefix; offset = t .offset; source = t .source; offcount = t .offcount; oncount = t .oncount; offs = sym (set-getD (t .offs) (y .at) z) j; ons = t .ons }; code = 0; view = v })
         ∙ find-off-made t k (y .at) (t .offcount) z d v wf (p .made c) o (p .off-at c o) (p .off-room c o) q
         (vq ∙ (λ j. offSeen (sym (off-at-address a (abs t .protocol)) j)) ∙ sym (ap (λ (x : OffChannel). model.offView (absOff x)) g))
         (sym (ap (λ (x : Bool). cond x (t .offcount) (t .offcount + 1)) b)))

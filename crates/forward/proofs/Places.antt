@@ -1,14 +1,15 @@
 -- A channel's place in any table that is the one form of a state within the limits: what the code takes from there, and the table with a
 -- channel of that key stored there. Assumes nothing.
-use mathlib.Core.Path.{_≡_, refl, ap, sym, _∙_}
+use mathlib.Core.Path.{_≡_, refl, ap, sym, subst, _∙_}
 use mathlib.Core.Bool.{Bool, true, false, cond}
-use mathlib.Core.List.{map}
+use mathlib.Core.List.{List, map}
 use Prim.Native.Nat.{ℕ, _+_, _≤_, _<_}
 use native.Mathlib.Omega.{arith}
 use borrow.Author.Tests.{ltb-true, ltb-false, le-ltb}
 use lib.Dec.{ltb}
-use lib.ListN.{length, getD}
-use Rattle.lists.proofs.Pad.{length-pad}
+use lib.ListN.{length, getD, length-map, List·getD-eq-default}
+use Rattle.lists.specs.Pad.{pad}
+use Rattle.lists.proofs.Pad.{length-pad, getD-pad, getD-default}
 use Rattle.lists.proofs.Find.{find-absent}
 use Rattle.lists.proofs.Slot.{slot-room, room-of}
 use Rattle.model.specs.State as model
@@ -23,6 +24,7 @@ use Rattle.table.specs.Table.{abs, repr, Wf, zeroOff, zeroOn}
 use Rattle.table.proofs.Laws.{storeOn, storeOff}
 use Rattle.calls.proofs.Called.{on-limit, off-limit, on-read, off-read, on-absent, off-absent, on-store, off-store, on-store-new, off-store-new}
 use Rattle.calls.specs.Places.{placeOn, placeOff}
+use Rattle.forward.specs.Forward.{onKeyed, offKeyed}
 
 -- ---- 4: the channel is there, or there is a place for one more
 
@@ -115,3 +117,39 @@ module _ (s : model.State) (t : Table) (form : t ≡ repr s) (fits : Fits (s .pr
       by false p =
           let h : t .offcount ≤ at = ltb-false at (t .offcount) p in
           off-store-new s t form (fits .offs) x (omega (arith, e')) (omega (arith, e'))
+
+-- ---- an unused place is all zero, so a new channel is that place with its key
+
+-- what is read past the list that the array is filled from
+unused : {A : Type 0} (n i : ℕ) (o z : A) (l : List A) → length l ≤ i → i < n → getD (pad n o l) i z ≡ o
+unused n i o z l h k = getD-default (pad n o l) i z o (subst (λ (m : ℕ). i < m) (sym (length-pad n o l)) k) ∙ getD-pad n o l i k ∙ List·getD-eq-default l o h
+
+on-unused : (t : Table) → Wf t → (at : ℕ) (z : OnChannel) → t .oncount ≤ at → at < 8 → getD (t .ons) at z ≡ zeroOn
+unfolding repr
+on-unused t w at z h k =
+    let l = map reprOn (abs t .protocol .ons) in
+    let n : t .oncount ≡ length (abs t .protocol .ons) = ap (λ (u : Table). u .oncount) (w .form) in
+    ap (λ (u : Table). getD (u .ons) at z) (w .form) ∙ unused 8 at zeroOn z l (subst (λ (m : ℕ). m ≤ at) (n ∙ sym (length-map (abs t .protocol .ons) reprOn)) h) k
+
+off-unused : (t : Table) → Wf t → (at : ℕ) (z : OffChannel) → t .offcount ≤ at → at < 4 → getD (t .offs) at z ≡ zeroOff
+unfolding repr
+off-unused t w at z h k =
+    let l = map reprOff (abs t .protocol .offs) in
+    let n : t .offcount ≡ length (abs t .protocol .offs) = ap (λ (u : Table). u .offcount) (w .form) in
+    ap (λ (u : Table). getD (u .offs) at z) (w .form) ∙ unused 4 at zeroOff z l (subst (λ (m : ℕ). m ≤ at) (n ∙ sym (length-map (abs t .protocol .offs) reprOff)) h) k
+
+pub on-fresh : (t : Table) → Wf t → (a i v at : ℕ) (z d : OnChannel) → at < 8 → d ≡ cond (ltb at (t .oncount)) (getD (t .ons) at z) (onKeyed a i v (getD (t .ons) at z))
+    → d ≡ cond (ltb at (t .oncount)) (getD (t .ons) at z) (reprOn (model.newOn a i v))
+on-fresh t w a i v at z d h q = q ∙ by (ltb at (t .oncount)) refl
+  where
+    by : (b : Bool) → ltb at (t .oncount) ≡ b → cond b (getD (t .ons) at z) (onKeyed a i v (getD (t .ons) at z)) ≡ cond b (getD (t .ons) at z) (reprOn (model.newOn a i v))
+    by true p = refl
+    by false p = ap (λ (c : OnChannel). onKeyed a i v c) (on-unused t w at z (ltb-false at (t .oncount) p) h)
+
+pub off-fresh : (t : Table) → Wf t → (a at : ℕ) (z d : OffChannel) → at < 4 → d ≡ cond (ltb at (t .offcount)) (getD (t .offs) at z) (offKeyed a (getD (t .offs) at z))
+    → d ≡ cond (ltb at (t .offcount)) (getD (t .offs) at z) (reprOff (model.newOff a))
+off-fresh t w a at z d h q = q ∙ by (ltb at (t .offcount)) refl
+  where
+    by : (b : Bool) → ltb at (t .offcount) ≡ b → cond b (getD (t .offs) at z) (offKeyed a (getD (t .offs) at z)) ≡ cond b (getD (t .offs) at z) (reprOff (model.newOff a))
+    by true p = refl
+    by false p = ap (λ (c : OffChannel). offKeyed a c) (off-unused t w at z (ltb-false at (t .offcount) p) h)

@@ -1,19 +1,22 @@
 -- The calls of this crate past refusal 1, and the parts that their code has.
 use mathlib.Core.Path.{_≡_}
 use mathlib.Core.Bool.{true}
-use Prim.Native.Nat.{ℕ, _<_}
+use Prim.Native.Nat.{ℕ, _≤_, _<_}
 use Rattle.packet.specs.declared.Record.{Record}
 use Rattle.packet.specs.declared.Key.{Key}
 use Rattle.packet.specs.declared.View.{View}
-use Rattle.packet.specs.Data.{keyIndex, keyMade}
+use Rattle.packet.specs.Data.{keyIndex, keyMade, wellMade, indexOf}
 use Rattle.model.specs.Port.{channelS, acceptOutS}
+use Rattle.channel.specs.declared.OffChannel.{OffChannel}
+use Rattle.channel.specs.declared.OnChannel.{OnChannel}
 use Rattle.table.specs.declared.Table.{Table}
 use Rattle.table.specs.Table.{abs, wfb}
 use Rattle.calls.specs.declared.Found.{Found}
 use Rattle.calls.specs.Answers.{noView}
 use Rattle.calls.specs.Places.{placeOn, placeOff}
-use Rattle.calls.specs.Calls.{tableReply, foundOf, channelOf}
+use Rattle.calls.specs.Calls.{tableReply, foundOf, channelOf, acceptedOut}
 use Rattle.forward.specs.declared.Place.{Place}
+use Rattle.forward.specs.declared.Timed.{Timed}
 
 -- the key of an off-channel
 abbrev pub offKey : ℕ → Key
@@ -46,3 +49,52 @@ pub record Placed (t : Table) (k : Key) (y : Place) : Type 0 where
   pub on-room : y .code ≡ 0 → k .on ≡ 1 → y .at < 8
   pub off-at : y .code ≡ 0 → (k .on ≡ 1 → ⊥) → y .at ≡ placeOff (k .address) (abs t)
   pub off-room : y .code ≡ 0 → (k .on ≡ 1 → ⊥) → y .at < 4
+
+-- a channel with another key
+abbrev pub onKeyed : ℕ → ℕ → ℕ → OnChannel → OnChannel
+onKeyed a i v c =
+    record {
+      address = a;
+      index = i;
+      version = v;
+      expected = c .expected;
+      source = c .source;
+      out = c .out;
+      acks = c .acks;
+      groups = c .groups;
+      bundles = c .bundles;
+      buffer = c .buffer;
+      queue = c .queue;
+    }
+
+abbrev pub offKeyed : ℕ → OffChannel → OffChannel
+offKeyed a c = record { address = a; out = c .out; acks = c .acks; groups = c .groups; bundles = c .bundles }
+
+-- forwarded out, before the channel is looked at: a refusal with the time that it leaves, or the place of the record's channel
+abbrev pub stoppedBy : ℕ → ℕ → Timed
+stoppedBy n latest = record { code = n; at = 0; latest = latest }
+
+abbrev pub timedAt : ℕ → Table → Table
+timedAt time t =
+    record {
+      latest = time;
+      forwarding = t .forwarding;
+      prefix = t .prefix;
+      offset = t .offset;
+      source = t .source;
+      offcount = t .offcount;
+      oncount = t .oncount;
+      offs = t .offs;
+      ons = t .ons;
+    }
+
+pub record Forwarded (t : Table) (time a : ℕ) (r : Record) (y : Timed) : Type 0 where
+  pub refused : (y .code ≡ 0 → ⊥) → refusedBy (timedAt (y .latest) t) (y .code) ≡ acceptedOut t time a r
+  pub formed : y .code ≡ 0 → wfb t ≡ true
+  pub made : y .code ≡ 0 → wellMade r ≡ true
+  pub reached : y .code ≡ 0 → t .latest ≤ time
+  pub left : y .code ≡ 0 → y .latest ≡ time
+  pub on-at : y .code ≡ 0 → r .on ≡ 1 → y .at ≡ placeOn a (indexOf r) (abs t)
+  pub on-room : y .code ≡ 0 → r .on ≡ 1 → y .at < 8
+  pub off-at : y .code ≡ 0 → (r .on ≡ 1 → ⊥) → y .at ≡ placeOff a (abs t)
+  pub off-room : y .code ≡ 0 → (r .on ≡ 1 → ⊥) → y .at < 4

@@ -7,15 +7,13 @@ use packet::Record;
 use packet::View;
 use table::Table;
 ghost use mathlib.Core.Path.{_≡_};
-ghost use mathlib.Core.Bool.{true, cond};
+ghost use mathlib.Core.Bool.{cond};
 ghost use Prim.Native.Nat.{_+_, _≤_};
-ghost use Rattle.packet.specs.Data.{isSet, wellMade, keyMade};
-ghost use Rattle.model.specs.State as model;
-ghost use Rattle.channel.specs.Channel.{reprOff, reprOn};
-ghost use Rattle.table.specs.Table.{Wf};
+ghost use lib.Dec.{eqb, ltb};
+ghost use Rattle.packet.specs.Data.{isSet, indexOf, versionOf};
 ghost use Rattle.calls.specs.Answers.{noView};
 ghost use Rattle.calls.specs.Calls.{channelOf, acceptedOut};
-ghost use Rattle.forward.specs.Forward.{Placed, onSeen, offSeen, offKey, refusedBy, outIn};
+ghost use Rattle.forward.specs.Forward.{Placed, Forwarded, stoppedBy, onSeen, offSeen, onKeyed, offKeyed, offKey};
 
 // A refusal's number or 0, and the place of the channel where it is 0.
 struct Place {
@@ -23,22 +21,11 @@ struct Place {
     at: usize,
 }
 
-// A refusal's answer: its number, and no channel.
-fn refused(t: Table, code: u32) -> Found
-    ensures { λ f. ⌜ f ≡ refusedBy t code ⌝ }
-{
-    let v = View {
-        on: 0,
-        address: 0,
-        index: 0,
-        version: 0,
-        expected: 0,
-    };
-    Found {
-        table: t,
-        code,
-        view: v,
-    }
+// The same, with the time that the call leaves.
+struct Timed {
+    code: u32,
+    at: usize,
+    latest: u64,
 }
 
 // ---- the views, from their numbers: a channel need not be moved to be answered
@@ -80,6 +67,16 @@ fn off_view(address: u32) -> View
     }
 }
 
+// 6 leaves the channel and answers none.
+fn off_answer(code: u32, address: u32) -> View
+    ensures { λ v. ⌜ v ≡ cond (eqb code 0) (offSeen address) noView ⌝ }
+{
+    if code == 0 {
+        return off_view(address);
+    }
+    no_view()
+}
+
 // "Fields not flagged are ignored": such an index or version is 0.
 fn if_flagged(flag: u32, value: u32) -> u32
     ensures { λ r. ⌜ r ≡ cond (isSet flag) value 0 ⌝ }
@@ -91,35 +88,14 @@ fn if_flagged(flag: u32, value: u32) -> u32
 }
 
 // The count of channels, one more where a channel was not there.
-fn counted(count: u32, there: bool) -> u32
+fn counted(count: u32, at: usize) -> u32
     requires { ⌜ count ≤ 8 ⌝ }
-    ensures { λ r. ⌜ r ≡ cond there count (count + 1) ⌝ }
+    ensures { λ r. ⌜ r ≡ cond (ltb at count) count (count + 1) ⌝ }
 {
-    if there {
+    if at < count as usize {
         return count;
     }
     count + 1
-}
-
-// ---- the channel that stands at a key's place, or a new one
-
-// "creation stores the version"
-fn on_or_new(c: OnChannel, there: bool, address: u32, index: u32, version: u32) -> OnChannel
-    ensures { λ r. ⌜ r ≡ cond there c (reprOn (model.newOn address index version)) ⌝ }
-{
-    if there {
-        return c;
-    }
-    OnChannel::new(address, index, version)
-}
-
-fn off_or_new(c: OffChannel, there: bool, address: u32) -> OffChannel
-    ensures { λ r. ⌜ r ≡ cond there c (reprOff (model.newOff address)) ⌝ }
-{
-    if there {
-        return c;
-    }
-    OffChannel::new(address)
 }
 
 // ---- find or create
@@ -204,92 +180,113 @@ pub fn off_channel(t: Table, address: u32) -> Found
 
 // ---- forwarded out
 
-// The state of an on-channel: "Room is judged on the state the rule would end in", and 11 leaves only the time.
-fn out_on(t: Table, time: u64, address: u32, r: Record) -> Found
-    requires { ⌜ Wf t ⌝ }
-    requires { ⌜ wellMade r ≡ true ⌝ }
-    requires { ⌜ t .latest ≤ time ⌝ }
-    requires { ⌜ r .on ≡ 1 ⌝ }
-    ensures { λ f. ⌜ f ≡ outIn t time address r ⌝ }
+// The record's channel, of what stands at its place: an unused place is all zero, so a new channel is that place with its key.
+fn on_for(c: OnChannel, count: u32, at: usize, address: u32, r: Record) -> OnChannel
+    ensures { λ d. ⌜ d ≡ cond (ltb at count) c (onKeyed address (indexOf r) (versionOf r) c) ⌝ }
 {
     let index = if_flagged(r.indexed, r.index);
     let version = if_flagged(r.indexed, r.version);
-    let at = calls::on_place(t, address, index);
-    let mut u = t;
-    u.latest = time;
-    if 8 <= at {
-        return refused(u, 4);
+    let mut d = c;
+    if count as usize <= at {
+        d.address = address;
+        d.index = index;
+        d.version = version;
     }
-    let there = at < t.oncount as usize;
-    let c = t.ons[at];
-    let d = on_or_new(c, there, address, index, version);
-    let s = records::on_forward(d, r, time);
-    if s.code != 0 {
-        return refused(u, s.code);
-    }
-    let x = s.channel;
-    let v = channel::on_view(x);
-    let n = counted(t.oncount, there);
-    u.ons[at] = x;
-    u.oncount = n;
-    Found {
-        table: u,
-        code: 0,
-        view: v,
-    }
+    d
 }
 
-// 6 leaves the channel too, made where it was not there.
-fn out_off(t: Table, time: u64, address: u32, r: Record) -> Found
-    requires { ⌜ Wf t ⌝ }
-    requires { ⌜ wellMade r ≡ true ⌝ }
-    requires { ⌜ t .latest ≤ time ⌝ }
-    requires { ⌜ (r .on ≡ 1 → ⊥) ⌝ }
-    ensures { λ f. ⌜ f ≡ outIn t time address r ⌝ }
+fn off_for(c: OffChannel, count: u32, at: usize, address: u32) -> OffChannel
+    ensures { λ d. ⌜ d ≡ cond (ltb at count) c (offKeyed address c) ⌝ }
 {
-    let at = calls::off_place(t, address);
-    let mut w = t;
-    w.latest = time;
-    if 4 <= at {
-        return refused(w, 4);
+    let mut d = c;
+    if count as usize <= at {
+        d.address = address;
     }
-    let there = at < t.offcount as usize;
-    let c = t.offs[at];
-    let d = off_or_new(c, there, address);
-    let s = records::off_forward(d, r, time);
-    if s.code == 11 {
-        return refused(w, 11);
-    }
-    let x = s.channel;
-    let v = channel::off_view(x);
-    let n = counted(t.offcount, there);
-    w.offs[at] = x;
-    w.offcount = n;
-    if s.code != 0 {
-        return refused(w, s.code);
-    }
-    Found {
-        table: w,
-        code: 0,
-        view: v,
+    d
+}
+
+fn stopped(code: u32, latest: u64) -> Timed
+    ensures { λ y. ⌜ y ≡ stoppedBy code latest ⌝ }
+{
+    Timed {
+        code,
+        at: 0,
+        latest,
     }
 }
 
-// "no prefix, version check or piggybacks"
+// The place of the record's channel, or the refusal, and the time that the call leaves.
+fn out_placed(t: Table, time: u64, address: u32, r: Record) -> Timed
+    ensures { λ y. ⌜ Forwarded t time address r y ⌝ }
+{
+    if !table::well_formed(t) {
+        return stopped(1, t.latest);
+    }
+    if !r.well_made() {
+        return stopped(2, t.latest);
+    }
+    if time < t.latest {
+        return stopped(3, t.latest);
+    }
+    if r.on == 1 {
+        let index = if_flagged(r.indexed, r.index);
+        let at = calls::on_place(t, address, index);
+        if 8 <= at {
+            return stopped(4, time);
+        }
+        return Timed {
+            code: 0,
+            at,
+            latest: time,
+        };
+    }
+    let at = calls::off_place(t, address);
+    if 4 <= at {
+        return stopped(4, time);
+    }
+    Timed {
+        code: 0,
+        at,
+        latest: time,
+    }
+}
+
+// "no prefix, version check or piggybacks". "Room is judged on the state the rule would end in": 11 leaves only the time, 6 the channel too.
 pub fn accept_out(t: Table, time: u64, address: u32, r: Record) -> Found
     ensures { λ f. ⌜ f ≡ acceptedOut t time address r ⌝ }
 {
-    if !table::well_formed(t) {
-        return refused(t, 1);
+    let y = out_placed(t, time, address, r);
+    let at = y.at;
+    let mut code = y.code;
+    let mut v = no_view();
+    let mut u = t;
+    u.latest = y.latest;
+    if y.code == 0 {
+        if r.on == 1 {
+            let d = on_for(u.ons[at], u.oncount, at, address, r);
+            let s = records::on_forward(d, r, time);
+            code = s.code;
+            if code == 0 {
+                v = on_view(d.address, d.index, d.version, d.expected);
+                let x = s.channel;
+                u.ons[at] = x;
+                u.oncount = counted(u.oncount, at);
+            }
+        } else {
+            let d = off_for(u.offs[at], u.offcount, at, address);
+            let s = records::off_forward(d, r, time);
+            code = s.code;
+            if code != 11 {
+                let x = s.channel;
+                u.offs[at] = x;
+                u.offcount = counted(u.offcount, at);
+                v = off_answer(code, d.address);
+            }
+        }
     }
-    if !r.well_made() {
-        return refused(t, 2);
+    Found {
+        table: u,
+        code,
+        view: v,
     }
-    if time < t.latest {
-        return refused(t, 3);
-    }
-    if r.on == 1 {
-        return out_on(t, time, address, r);
-    }
-    out_off(t, time, address, r)
 }

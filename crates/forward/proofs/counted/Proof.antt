@@ -4,7 +4,7 @@ use Rattle.forward.proofs.counted.Statement.{statement}
 use Rattle.forward.proofs.counted.Tie as tie
 
 returns : tie.Need-returns
-returns c = search needs
+returns c = search steps
 
 add-result : tie.Need-add-result
 add-result c = search needs
