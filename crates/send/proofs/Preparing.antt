@@ -1,15 +1,16 @@
 -- Send, a return at a time. Assumes nothing.
 use mathlib.Core.Path.{_≡_, refl, ap, sym, _∙_}
-use mathlib.Core.Bool.{Bool, true, false, not, _&&_}
+use mathlib.Core.Bool.{Bool, true, false, not, cond, _&&_}
 use mathlib.Core.List.{List, _++_}
 use Prim.Native.Nat.{ℕ, _+_, _≤_, _<_}
 use native.Mathlib.Omega.{arith}
-use mir.Syntax.{w32}
+use mir.Syntax.{w32, w64}
 use mir.Val.{Fits}
 use borrow.Author.Needs.{needs}
-use borrow.Author.Tests.{eq-eqb, ne-eqb, le-leb, lt-leb, leb-true, lt-ltb, le-ltb, not-true, not-false}
-use lib.Dec.{leb, ltb}
+use borrow.Author.Tests.{eq-eqb, ne-eqb, eqb-true, eqb-false, le-leb, lt-leb, leb-true, leb-false, lt-ltb, le-ltb, ltb-true, ltb-false, not-true, not-false}
+use lib.Dec.{leb, ltb, eqb}
 use lib.ListN.{length, getD, length-append}
+use lib.Seq.{set-getD}
 use Rattle.lists.proofs.Pad.{and-right, length-pad}
 use Rattle.seq.specs.Num.{add}
 use Rattle.packet.specs.declared.Key.{Key}
@@ -37,9 +38,14 @@ use Rattle.calls.specs.declared.Handles.{Handles}
 use Rattle.calls.specs.declared.Sent.{Sent}
 use Rattle.calls.specs.Places.{placeOn, placeOff}
 use Rattle.calls.specs.Calls.{Outcome, tableReply, sentOf, handlesOf, preparedBy}
-use Rattle.calls.proofs.Called.{called-refused, called-granted, tested, key-placed, keyPlaceOn, keyPlaceOff, on-index, off-index, on-key-there, on-key-absent, on-key-fits, off-key-there, off-key-absent, off-key-fits, on-store, off-store, on-standing, on-standing-abs, on-standing-below, off-standing, off-standing-abs, off-standing-below}
+use Rattle.calls.proofs.Called.{called-refused, called-granted, tested, key-placed, keyPlaceOn, keyPlaceOff, on-limit, off-limit, on-index, off-index, on-key-there, on-key-absent, on-key-fits, off-key-there, off-key-absent, off-key-fits, on-store, off-store, on-standing, on-standing-abs, on-standing-below, off-standing, off-standing-abs, off-standing-below}
 use Rattle.calls.proofs.Timed.{timeSet, set-form, on-time, wf-room}
-use Rattle.send.specs.Send.{asked, refusedBy, answerOf, sourced, looseIf, looseOf, sentIn}
+use Rattle.calls.specs.Answers.{noPrepared}
+use Rattle.send.specs.declared.Left.{Left}
+use Rattle.send.specs.declared.OffSent.{OffSent}
+use Rattle.send.specs.declared.OnSent.{OnSent}
+use Rattle.send.specs.Send.{asked, sendCode, answerOf, unsentLeft, stoppedLeft, looseIf, looseLeft, onNew, offNew, onSends, offSends, onSentOf, offSentOf, sentIn}
+use Rattle.send.proofs.Outside.{outsideOff, outsideOn}
 use Rattle.send.proofs.Added.{length-sent}
 use Rattle.send.proofs.Sent.{loosed, onEntries, onSent, offEntries, offSent, moved, sent-malformed, sent-late, sent-absent, sent-loose, sent-on, sent-on-over, sent-off, sent-off-over}
 
@@ -59,21 +65,124 @@ pub ruleset asking = (asked-is, needs)
 
 -- ---- not reliable
 
-pub loose-one : (t : Table) (n : ℕ) (v : View) (p : Prepared) → p ≡ answerOf v (t .offset) true (t .source) → n ≤ 1
-    → _≡_ {A = Sent} (record { table = t; code = 0; prepared = record { allocated = 0; first = 0; on = p .on; expected = p .expected; index = p .index; version = p .version; offset = p .offset } }) (looseOf t n v)
-unfolding looseOf
-loose-one t n v p e h =
-    (λ j. record { table = t; code = 0; prepared = record { allocated = 0; first = 0; on = e j .on; expected = e j .expected; index = e j .index; version = e j .version; offset = e j .offset } })
-    ∙ ap (λ (b : Bool). looseIf b t n v) (sym (le-ltb 1 n h))
+pub loose-one : (a : Left) (v : View) (time offset n : ℕ) (p : Prepared) → p ≡ answerOf v offset true (a .source) → n ≤ 1
+    → _≡_ {A = Left} (record { latest = time; source = a .source; code = a .code; prepared = record { allocated = 0; first = 0; on = p .on; expected = p .expected; index = p .index; version = p .version; offset = p .offset } }) (looseLeft a v time offset n)
+unfolding looseLeft
+loose-one a v time offset n p e h =
+    (λ j. record { latest = time; source = a .source; code = a .code; prepared = record { allocated = 0; first = 0; on = e j .on; expected = e j .expected; index = e j .index; version = e j .version; offset = e j .offset } })
+    ∙ ap (λ (b : Bool). looseIf b a v time offset n) (sym (le-ltb 1 n h))
 
-pub loose-more : (t : Table) (n next : ℕ) (v : View) (p : Prepared) → p ≡ answerOf v (t .offset) true (t .source) → 1 < n → next ≡ add (t .source) n
-    → _≡_ {A = Sent} (record { table = sourced next t; code = 0; prepared = p }) (looseOf t n v)
-unfolding looseOf
-loose-more t n next v p e h q = (λ j. record { table = sourced (q j) t; code = 0; prepared = e j }) ∙ ap (λ (b : Bool). looseIf b t n v) (sym (lt-ltb 1 n h))
+pub loose-more : (a : Left) (v : View) (time offset n next : ℕ) (p : Prepared) → p ≡ answerOf v offset true (a .source) → 1 < n → next ≡ add (a .source) n
+    → _≡_ {A = Left} (record { latest = time; source = next; code = a .code; prepared = p }) (looseLeft a v time offset n)
+unfolding looseLeft
+loose-more a v time offset n next p e h q =
+    (λ j. record { latest = time; source = q j; code = a .code; prepared = e j }) ∙ ap (λ (b : Bool). looseIf b a v time offset n) (sym (lt-ltb 1 n h))
 
 pub ruleset loosing = (loose-one, loose-more, needs)
 
+-- ---- 1, 2, 3
+
+pub front-unformed : (g : Bool) (latest source time : ℕ) (k : Key) (reliable n : ℕ) (a : Left) → not g ≡ true → a ≡ unsentLeft latest source 1 → a ≡ unsentLeft latest source (sendCode g latest time k reliable n)
+front-unformed g latest source time k reliable n a h e = e ∙ ap (λ (b : Bool). unsentLeft latest source (sendCode b latest time k reliable n)) (sym (not-true g h))
+
+module _ (g : Bool) (latest source time : ℕ) (k : Key) (reliable n : ℕ) (a : Left) (m : Bool) (h : not g ≡ false) (y : m ≡ asked k reliable n) where
+  front-asked : (z : Bool) → m ≡ z → unsentLeft latest source (cond z (cond (ltb time latest) 3 0) 2) ≡ unsentLeft latest source (sendCode g latest time k reliable n)
+  front-asked z e = (λ j. unsentLeft latest source (cond ((sym e ∙ y) j) (cond (ltb time latest) 3 0) 2)) ∙ ap (λ (b : Bool). unsentLeft latest source (sendCode b latest time k reliable n)) (sym (not-false g h))
+
+  pub front-malformed : not m ≡ true → a ≡ unsentLeft latest source 2 → a ≡ unsentLeft latest source (sendCode g latest time k reliable n)
+  front-malformed z e = e ∙ front-asked false (not-true m z)
+
+  pub front-late : not m ≡ false → time < latest → a ≡ unsentLeft latest source 3 → a ≡ unsentLeft latest source (sendCode g latest time k reliable n)
+  front-late z l e = e ∙ ap (λ (b : Bool). unsentLeft latest source (cond b 3 0)) (sym (lt-ltb time latest l)) ∙ front-asked true (not-false m z)
+
+  pub front-past : not m ≡ false → latest ≤ time → a ≡ unsentLeft latest source 0 → a ≡ unsentLeft latest source (sendCode g latest time k reliable n)
+  front-past z l e = e ∙ ap (λ (b : Bool). unsentLeft latest source (cond b 3 0)) (sym (le-ltb time latest l)) ∙ front-asked true (not-false m z)
+
+pub ruleset fronting = (front-unformed, front-malformed, front-late, front-past, needs)
+
+-- ---- a send on its channel, a return at a time
+
+pub over-fits : (o : OutList) (n : ℕ) → out.Wf o → n ≤ 16 → Fits w32 (o .len + n)
+over-fits o n w h = sum-fits (o .len) n (wf-len-le o w) h
+
+module _ (c : OnChannel) (a : Left) (time offset reliable : ℕ) (h : Handles) (v : View) (e : v ≡ model.onView (absOn c)) where
+  pub on-sent-loose : (b : Left) → (reliable ≡ 1 → ⊥) → b ≡ looseLeft a v time offset (h .count) → _≡_ {A = OnSent} (record { channel = c; left = b }) (onSentOf c a time offset reliable h)
+  unfolding onSentOf
+  on-sent-loose b r q =
+      (λ j. record { channel = c; left = q j })
+      ∙ (λ j. record { channel = c; left = looseLeft a (e j) time offset (h .count) })
+      ∙ ap (λ (x : Bool). onSends x (leb (c .out .len + h .count) 32) c a time offset h) (sym (ne-eqb reliable 1 r))
+
+  module _ (r : reliable ≡ 1) where
+    pub on-sent-over : (b : Left) → 32 < c .out .len + h .count → b ≡ stoppedLeft a time 11 → _≡_ {A = OnSent} (record { channel = c; left = b }) (onSentOf c a time offset reliable h)
+    unfolding onSentOf
+    on-sent-over b m q =
+        (λ j. record { channel = c; left = q j }) ∙ (λ j. onSends (sym (eq-eqb reliable 1 r) j) (sym (lt-leb (c .out .len + h .count) 32 m) j) c a time offset h)
+
+    pub on-sent-granted : (all : OutList) (next : ℕ) (p : Prepared) → c .out .len + h .count ≤ 32 → all ≡ out.repr (out.abs (c .out) ++ sentEntries time (c .source) (handlesOf h)) → next ≡ add (c .source) (h .count)
+        → p ≡ answerOf v offset true (c .source)
+        → _≡_ {A = OnSent} (record { channel = onNew c next all; left = record { latest = time; source = a .source; code = a .code; prepared = p } }) (onSentOf c a time offset reliable h)
+    unfolding onSentOf
+    on-sent-granted all next p m f g q =
+        let z : p ≡ answerOf (model.onView (absOn c)) offset true (c .source) = q ∙ ap (λ (x : View). answerOf x offset true (c .source)) e in
+        (λ j. record { channel = onNew c (g j) (f j); left = record { latest = time; source = a .source; code = a .code; prepared = z j } })
+        ∙ (λ j. onSends (sym (eq-eqb reliable 1 r) j) (sym (le-leb (c .out .len + h .count) 32 m) j) c a time offset h)
+
+module _ (c : OffChannel) (a : Left) (time offset reliable : ℕ) (h : Handles) (v : View) (e : v ≡ model.offView (absOff c)) where
+  pub off-sent-loose : (b : Left) → (reliable ≡ 1 → ⊥) → b ≡ looseLeft a v time offset (h .count) → _≡_ {A = OffSent} (record { channel = c; left = b }) (offSentOf c a time offset reliable h)
+  unfolding offSentOf
+  off-sent-loose b r q =
+      (λ j. record { channel = c; left = q j })
+      ∙ (λ j. record { channel = c; left = looseLeft a (e j) time offset (h .count) })
+      ∙ ap (λ (x : Bool). offSends x (leb (c .out .len + h .count) 32) c a time offset h) (sym (ne-eqb reliable 1 r))
+
+  module _ (r : reliable ≡ 1) where
+    pub off-sent-over : (b : Left) → 32 < c .out .len + h .count → b ≡ stoppedLeft a time 11 → _≡_ {A = OffSent} (record { channel = c; left = b }) (offSentOf c a time offset reliable h)
+    unfolding offSentOf
+    off-sent-over b m q =
+        (λ j. record { channel = c; left = q j }) ∙ (λ j. offSends (sym (eq-eqb reliable 1 r) j) (sym (lt-leb (c .out .len + h .count) 32 m) j) c a time offset h)
+
+    pub off-sent-granted : (all : OutList) (next : ℕ) (p : Prepared) → c .out .len + h .count ≤ 32 → all ≡ out.repr (out.abs (c .out) ++ sentEntries time (a .source) (handlesOf h)) → next ≡ add (a .source) (h .count)
+        → p ≡ answerOf v offset true (a .source)
+        → _≡_ {A = OffSent} (record { channel = offNew c all; left = record { latest = time; source = next; code = a .code; prepared = p } }) (offSentOf c a time offset reliable h)
+    unfolding offSentOf
+    off-sent-granted all next p m f g q =
+        let z : p ≡ answerOf (model.offView (absOff c)) offset true (a .source) = q ∙ ap (λ (x : View). answerOf x offset true (a .source)) e in
+        (λ j. record { channel = offNew c (f j); left = record { latest = time; source = g j; code = a .code; prepared = z j } })
+        ∙ (λ j. offSends (sym (eq-eqb reliable 1 r) j) (sym (le-leb (c .out .len + h .count) 32 m) j) c a time offset h)
+
 -- ---- either kind: the reply, and the table that it leaves
+
+-- a refusal's answer, with the table that it leaves
+abbrev refusedBy : Table → ℕ → Sent
+refusedBy t n = record { table = t; code = n; prepared = noPrepared }
+
+abbrev sourced : ℕ → Table → Table
+sourced n t =
+    record {
+      latest = t .latest;
+      forwarding = t .forwarding;
+      prefix = t .prefix;
+      offset = t .offset;
+      source = n;
+      offcount = t .offcount;
+      oncount = t .oncount;
+      offs = t .offs;
+      ons = t .ons;
+    }
+
+-- the call's end: what is left goes into the table and the answer
+abbrev pub finished : Table → Left → Sent
+finished t a = record { table = sourced (a .source) (timeSet (a .latest) t); code = a .code; prepared = a .prepared }
+
+-- nothing but the time, the source and the answer, by whether numbers are taken
+abbrev looseSent : Bool → Table → ℕ → View → Sent
+looseSent true t n v = record { table = sourced (add (t .source) n) t; code = 0; prepared = answerOf v (t .offset) true (t .source) }
+looseSent false t n v = record { table = t; code = 0; prepared = answerOf v (t .offset) false (t .source) }
+
+loose-same : (t : Table) (time n : ℕ) (v : View) (b : Bool) → finished t (looseIf b (unsentLeft (t .latest) (t .source) 0) v time (t .offset) n) ≡ looseSent b (timeSet time t) n v
+loose-same t time n v true = refl
+loose-same t time n v false = refl
 
 in-is : (t : Table) (time : ℕ) (k : Key) (reliable : ℕ) (h : Handles) (s : Sent) (q : Reply) → prepareS time k reliable (handlesOf h) (abs t) ≡ q → s ≡ sentOf (tableReply q) → s ≡ sentIn t time k reliable h
 unfolding sentIn
@@ -105,18 +214,18 @@ module _ (t : Table) (time : ℕ) (k : Key) (reliable : ℕ) (h : Handles) (w : 
   over-is : (s : Sent) → prepareS time k reliable (handlesOf h) (abs t) ≡ refuse overLimit (timed time (abs t)) → s ≡ refusedBy (timeSet time t) 11 → s ≡ sentIn t time k reliable h
   over-is s q e = in-is t time k reliable h s (refuse overLimit (timed time (abs t))) q (e ∙ (λ j. refusedBy (set-form time t w j) 11))
 
-  loose-is : (s : Sent) (v : View) → hasKey k (abs t .protocol) ≡ true → (reliable ≡ 1 → ⊥) → v ≡ keyView k (abs t .protocol) → s ≡ looseOf (timeSet time t) (h .count) v → s ≡ sentIn t time k reliable h
-  unfolding looseOf sentIn
+  loose-is : (s : Sent) (v : View) → hasKey k (abs t .protocol) ≡ true → (reliable ≡ 1 → ⊥) → v ≡ keyView k (abs t .protocol) → s ≡ looseSent (ltb 1 (h .count)) (timeSet time t) (h .count) v → s ≡ sentIn t time k reliable h
+  unfolding sentIn
   loose-is s v here r e q = q ∙ by (ltb 1 (h .count)) refl
     where
-      by : (b : Bool) → ltb 1 (h .count) ≡ b → looseIf (ltb 1 (h .count)) (timeSet time t) (h .count) v ≡ sentIn t time k reliable h
+      by : (b : Bool) → ltb 1 (h .count) ≡ b → looseSent (ltb 1 (h .count)) (timeSet time t) (h .count) v ≡ sentIn t time k reliable h
       by b c =
           let many : ltb 1 (length (handlesOf h)) ≡ b = ap (λ (n : ℕ). ltb 1 n) (sym count-is) ∙ c in
-          ap (λ (x : Bool). looseIf x (timeSet time t) (h .count) v) c
+          ap (λ (x : Bool). looseSent x (timeSet time t) (h .count) v) c
           ∙ at b
           ∙ ap (λ (x : Reply). sentOf (tableReply x)) (sym (sent-loose time k reliable (handlesOf h) (abs t) b (wf-room t w) made-is (on-time time t l) here (ne-eqb reliable 1 r) many))
         where
-          at : (b : Bool) → looseIf b (timeSet time t) (h .count) v
+          at : (b : Bool) → looseSent b (timeSet time t) (h .count) v
               ≡ record { table = repr (model.withProtocol (loosed time k reliable (handlesOf h) (abs t) b) (model.withTime time (abs t))); code = 0; prepared = answerOf (keyView k (abs t .protocol)) (abs t .protocol .offset) b (abs t .protocol .source) }
           at true =
               let n : add (t .source) (h .count) ≡ add (abs t .protocol .source) (length (handlesOf h)) = λ j. add (source-is t j) (count-is j) in
@@ -124,22 +233,6 @@ module _ (t : Table) (time : ℕ) (k : Key) (reliable : ℕ) (h : Handles) (w : 
           at false = λ j. record { table = set-form time t w j; code = 0; prepared = answerOf (e j) (offset-is t j) false (source-is t j) }
 
 -- ---- an on-channel
-
-abbrev onNew : OnChannel → ℕ → OutList → OnChannel
-onNew c n o =
-    record {
-      address = c .address;
-      index = c .index;
-      version = c .version;
-      expected = c .expected;
-      source = n;
-      out = o;
-      acks = c .acks;
-      groups = c .groups;
-      bundles = c .bundles;
-      buffer = c .buffer;
-      queue = c .queue;
-    }
 
 on-view-is : (k : Key) (p : model.Protocol) → k .on ≡ 1 → model.onView (keyOn k p) ≡ keyView k p
 on-view-is k p o = ap (λ (b : Bool). viewIf b (k .address) (keyIndex k) (firstVersion k) p) (sym (eq-eqb (k .on) 1 o))
@@ -150,7 +243,7 @@ on-out-wf t at d w h = on-wf-at t w at d (on-index t at w h) .out
 pub on-out-len : (t : Table) (at : ℕ) (d : OnChannel) → Wf t → at < t .oncount → getD (t .ons) at d .out .len ≤ 32
 on-out-len t at d w h = wf-len-le (getD (t .ons) at d .out) (on-out-wf t at d w h)
 
-pub on-absent : (t : Table) (time : ℕ) (k : Key) (reliable : ℕ) (h : Handles) (i at : ℕ) (s : Sent) → Wf t → asked k reliable (h .count) ≡ true → t .latest ≤ time → k .on ≡ 1
+on-absent : (t : Table) (time : ℕ) (k : Key) (reliable : ℕ) (h : Handles) (i at : ℕ) (s : Sent) → Wf t → asked k reliable (h .count) ≡ true → t .latest ≤ time → k .on ≡ 1
     → i ≡ keyIndex k → at ≡ placeOn (k .address) i (abs t) → t .oncount ≤ at → s ≡ refusedBy (timeSet time t) 13 → s ≡ sentIn t time k reliable h
 on-absent t time k reliable h i at s w a l o ki p b e = absent-is t time k reliable h w a l s (on-key-absent t w k o (omega (arith, key-placed k (abs t) i at ki p))) e
 
@@ -165,7 +258,7 @@ module _ (t : Table) (time : ℕ) (k : Key) (reliable : ℕ) (h : Handles) (i at
   on-seen : (v : View) → v ≡ model.onView (absOn (getD (t .ons) at d)) → v ≡ keyView k (abs t .protocol)
   on-seen v e = e ∙ ap (λ (c : model.OnChannel). model.onView c) on-is ∙ on-view-is k (abs t .protocol) o
 
-  pub on-loose : (s : Sent) (v : View) → v ≡ model.onView (absOn (getD (t .ons) at d)) → (reliable ≡ 1 → ⊥) → s ≡ looseOf (timeSet time t) (h .count) v → s ≡ sentIn t time k reliable h
+  on-loose : (s : Sent) (v : View) → v ≡ model.onView (absOn (getD (t .ons) at d)) → (reliable ≡ 1 → ⊥) → s ≡ looseSent (ltb 1 (h .count)) (timeSet time t) (h .count) v → s ≡ sentIn t time k reliable h
   on-loose s v e r q = loose-is t time k reliable h w a l s v on-there r (on-seen v e) q
 
   abbrev entries : List OutEntry
@@ -181,7 +274,7 @@ module _ (t : Table) (time : ℕ) (k : Key) (reliable : ℕ) (h : Handles) (i at
       ∙ omega (arith, length-append (out.abs (c .out)) (sentEntries time (c .source) (handlesOf h)), length-sent time (c .source) (handlesOf h), length-pad (h .count) 0 (h .handles), wf-len (c .out) (on-out-wf t at d w b))
 
   module _ (r : reliable ≡ 1) where
-    pub on-over : (s : Sent) → 32 < getD (t .ons) at d .out .len + h .count → s ≡ refusedBy (timeSet time t) 11 → s ≡ sentIn t time k reliable h
+    on-over : (s : Sent) → 32 < getD (t .ons) at d .out .len + h .count → s ≡ refusedBy (timeSet time t) 11 → s ≡ sentIn t time k reliable h
     on-over s m e =
         over-is t time k reliable h w a l s
         (sent-on-over time k reliable (handlesOf h) (abs t) (made-is t time k reliable h w a l) (on-time time t l) (eq-eqb reliable 1 r) (wf-room t w) o on-there (on-key-fits t w k) (lt-leb (length entries) 32 (omega (arith, on-length))))
@@ -202,7 +295,7 @@ module _ (t : Table) (time : ℕ) (k : Key) (reliable : ℕ) (h : Handles) (i at
         ∙ ap (λ (j : ℕ). storeOn (timeSet time t) (t .oncount) j (reprOn (onSent time k reliable (handlesOf h) s))) (sym x)
         ∙ on-store (model.withTime time s) (timeSet time t) (set-form time t w) (few-ons t w) (onSent time k reliable (handlesOf h) s) (omega (arith, x, key))
 
-    pub on-granted : (v : View) (all : OutList) (next : ℕ) (z : Prepared) → v ≡ model.onView (absOn (getD (t .ons) at d)) → getD (t .ons) at d .out .len + h .count ≤ 32
+    on-granted : (v : View) (all : OutList) (next : ℕ) (z : Prepared) → v ≡ model.onView (absOn (getD (t .ons) at d)) → getD (t .ons) at d .out .len + h .count ≤ 32
         → all ≡ out.repr (out.abs (getD (t .ons) at d .out) ++ sentEntries time (getD (t .ons) at d .source) (handlesOf h)) → next ≡ add (getD (t .ons) at d .source) (h .count)
         → z ≡ answerOf v (t .offset) true (getD (t .ons) at d .source)
         → _≡_ {A = Sent} (record { table = storeOn (timeSet time t) (t .oncount) at (onNew (getD (t .ons) at d) next all); code = 0; prepared = z }) (sentIn t time k reliable h)
@@ -212,10 +305,35 @@ module _ (t : Table) (time : ℕ) (k : Key) (reliable : ℕ) (h : Handles) (i at
         (λ j. record { table = on-stored all next f g j; code = 0; prepared = y j })
         ∙ ap (λ (x : Reply). sentOf (tableReply x)) (sym (sent-on time k reliable (handlesOf h) (abs t) (made-is t time k reliable h w a l) (on-time time t l) (eq-eqb reliable 1 r) (wf-room t w) o on-there (on-key-fits t w k) (le-leb (length entries) 32 (omega (arith, on-length)))))
 
--- ---- an off-channel
+  -- the channel as it was
+  on-kept : (y : Left) → finished (storeOn t (t .oncount) at (getD (t .ons) at d)) y ≡ finished t y
+  on-kept y =
+      ap (λ (l : List OnChannel). finished (record { latest = t .latest; forwarding = t .forwarding; prefix = t .prefix; offset = t .offset; source = t .source; offcount = t .offcount; oncount = t .oncount; offs = t .offs; ons = l }) y) (set-getD (t .ons) at d)
 
-abbrev offNew : OffChannel → OutList → OffChannel
-offNew c o = record { address = c .address; out = o; acks = c .acks; groups = c .groups; bundles = c .bundles }
+  abbrev onPut : OnSent → Sent
+  onPut z = finished (storeOn t (t .oncount) at (z .channel)) (z .left)
+
+  pub on-sends : (x : OnSent) (y : Left) → y ≡ unsentLeft (t .latest) (t .source) 0 → x ≡ onSentOf (getD (t .ons) at d) y time (t .offset) reliable h
+      → finished (storeOn t (t .oncount) at (x .channel)) (x .left) ≡ sentIn t time k reliable h
+  unfolding onSentOf looseLeft
+  on-sends x y f e =
+      let ch = getD (t .ons) at d in
+      (λ j. onPut (e j)) ∙ (λ j. onPut (onSentOf ch (f j) time (t .offset) reliable h)) ∙ by (eqb reliable 1) (leb (ch .out .len + h .count) 32) refl refl
+    where
+      by : (r m : Bool) → eqb reliable 1 ≡ r → leb (getD (t .ons) at d .out .len + h .count) 32 ≡ m
+          → onPut (onSends r m (getD (t .ons) at d) (unsentLeft (t .latest) (t .source) 0) time (t .offset) h) ≡ sentIn t time k reliable h
+      by false m q z =
+          let v = model.onView (absOn (getD (t .ons) at d)) in
+          on-kept (looseLeft (unsentLeft (t .latest) (t .source) 0) v time (t .offset) (h .count))
+          ∙ loose-same t time (h .count) v (ltb 1 (h .count))
+          ∙ on-loose (looseSent (ltb 1 (h .count)) (timeSet time t) (h .count) v) v refl (eqb-false reliable 1 q) refl
+      by true false q z =
+          on-kept (stoppedLeft (unsentLeft (t .latest) (t .source) 0) time 11)
+          ∙ on-over (eqb-true reliable 1 q) (refusedBy (timeSet time t) 11) (leb-false (getD (t .ons) at d .out .len + h .count) 32 z) refl
+      by true true q z =
+          on-granted (eqb-true reliable 1 q) (model.onView (absOn (getD (t .ons) at d))) _ _ _ refl (leb-true (getD (t .ons) at d .out .len + h .count) 32 z) refl refl refl
+
+-- ---- an off-channel
 
 off-view-is : (k : Key) (p : model.Protocol) → (k .on ≡ 1 → ⊥) → model.offView (keyOff k p) ≡ keyView k p
 off-view-is k p o = ap (λ (b : Bool). viewIf b (k .address) (keyIndex k) (firstVersion k) p) (sym (ne-eqb (k .on) 1 o))
@@ -226,7 +344,7 @@ off-out-wf t at d w h = off-wf-at t w at d (off-index t at w h) .out
 pub off-out-len : (t : Table) (at : ℕ) (d : OffChannel) → Wf t → at < t .offcount → getD (t .offs) at d .out .len ≤ 32
 off-out-len t at d w h = wf-len-le (getD (t .offs) at d .out) (off-out-wf t at d w h)
 
-pub off-absent : (t : Table) (time : ℕ) (k : Key) (reliable : ℕ) (h : Handles) (at : ℕ) (s : Sent) → Wf t → asked k reliable (h .count) ≡ true → t .latest ≤ time → (k .on ≡ 1 → ⊥)
+off-absent : (t : Table) (time : ℕ) (k : Key) (reliable : ℕ) (h : Handles) (at : ℕ) (s : Sent) → Wf t → asked k reliable (h .count) ≡ true → t .latest ≤ time → (k .on ≡ 1 → ⊥)
     → at ≡ placeOff (k .address) (abs t) → t .offcount ≤ at → s ≡ refusedBy (timeSet time t) 13 → s ≡ sentIn t time k reliable h
 off-absent t time k reliable h at s w a l o p b e = absent-is t time k reliable h w a l s (off-key-absent t w k o (omega (arith, p))) e
 
@@ -241,7 +359,7 @@ module _ (t : Table) (time : ℕ) (k : Key) (reliable : ℕ) (h : Handles) (at :
   off-seen : (v : View) → v ≡ model.offView (absOff (getD (t .offs) at d)) → v ≡ keyView k (abs t .protocol)
   off-seen v e = e ∙ ap (λ (c : model.OffChannel). model.offView c) off-is ∙ off-view-is k (abs t .protocol) o
 
-  pub off-loose : (s : Sent) (v : View) → v ≡ model.offView (absOff (getD (t .offs) at d)) → (reliable ≡ 1 → ⊥) → s ≡ looseOf (timeSet time t) (h .count) v → s ≡ sentIn t time k reliable h
+  off-loose : (s : Sent) (v : View) → v ≡ model.offView (absOff (getD (t .offs) at d)) → (reliable ≡ 1 → ⊥) → s ≡ looseSent (ltb 1 (h .count)) (timeSet time t) (h .count) v → s ≡ sentIn t time k reliable h
   off-loose s v e r q = loose-is t time k reliable h w a l s v off-there r (off-seen v e) q
 
   abbrev joins : List OutEntry
@@ -257,7 +375,7 @@ module _ (t : Table) (time : ℕ) (k : Key) (reliable : ℕ) (h : Handles) (at :
       ∙ omega (arith, length-append (out.abs (c .out)) (sentEntries time (t .source) (handlesOf h)), length-sent time (t .source) (handlesOf h), length-pad (h .count) 0 (h .handles), wf-len (c .out) (off-out-wf t at d w b))
 
   module _ (r : reliable ≡ 1) where
-    pub off-over : (s : Sent) → 32 < getD (t .offs) at d .out .len + h .count → s ≡ refusedBy (timeSet time t) 11 → s ≡ sentIn t time k reliable h
+    off-over : (s : Sent) → 32 < getD (t .offs) at d .out .len + h .count → s ≡ refusedBy (timeSet time t) 11 → s ≡ sentIn t time k reliable h
     off-over s m e =
         over-is t time k reliable h w a l s
         (sent-off-over time k reliable (handlesOf h) (abs t) (made-is t time k reliable h w a l) (on-time time t l) (eq-eqb reliable 1 r) (wf-room t w) o off-there (off-key-fits t w k) (lt-leb (length joins) 32 (omega (arith, off-length))))
@@ -283,7 +401,7 @@ module _ (t : Table) (time : ℕ) (k : Key) (reliable : ℕ) (h : Handles) (at :
         (offSent time k reliable (handlesOf h) s)
         (omega (arith, x, p))
 
-    pub off-granted : (v : View) (all : OutList) (next : ℕ) (z : Prepared) → v ≡ model.offView (absOff (getD (t .offs) at d)) → getD (t .offs) at d .out .len + h .count ≤ 32
+    off-granted : (v : View) (all : OutList) (next : ℕ) (z : Prepared) → v ≡ model.offView (absOff (getD (t .offs) at d)) → getD (t .offs) at d .out .len + h .count ≤ 32
         → all ≡ out.repr (out.abs (getD (t .offs) at d .out) ++ sentEntries time (t .source) (handlesOf h)) → next ≡ add (t .source) (h .count)
         → z ≡ answerOf v (t .offset) true (t .source)
         → _≡_ {A = Sent} (record { table = storeOff (sourced next (timeSet time t)) (t .offcount) at (offNew (getD (t .offs) at d) all); code = 0; prepared = z }) (sentIn t time k reliable h)
@@ -293,12 +411,37 @@ module _ (t : Table) (time : ℕ) (k : Key) (reliable : ℕ) (h : Handles) (at :
         (λ j. record { table = off-stored all next f g j; code = 0; prepared = y j })
         ∙ ap (λ (x : Reply). sentOf (tableReply x)) (sym (sent-off time k reliable (handlesOf h) (abs t) (made-is t time k reliable h w a l) (on-time time t l) (eq-eqb reliable 1 r) (wf-room t w) o off-there (off-key-fits t w k) (le-leb (length joins) 32 (omega (arith, off-length)))))
 
+  -- the channel as it was
+  off-kept : (y : Left) → finished (storeOff t (t .offcount) at (getD (t .offs) at d)) y ≡ finished t y
+  off-kept y =
+      ap (λ (l : List OffChannel). finished (record { latest = t .latest; forwarding = t .forwarding; prefix = t .prefix; offset = t .offset; source = t .source; offcount = t .offcount; oncount = t .oncount; offs = l; ons = t .ons }) y) (set-getD (t .offs) at d)
+
+  abbrev offPut : OffSent → Sent
+  offPut z = finished (storeOff t (t .offcount) at (z .channel)) (z .left)
+
+  pub off-sends : (x : OffSent) (y : Left) → y ≡ unsentLeft (t .latest) (t .source) 0 → x ≡ offSentOf (getD (t .offs) at d) y time (t .offset) reliable h
+      → finished (storeOff t (t .offcount) at (x .channel)) (x .left) ≡ sentIn t time k reliable h
+  unfolding offSentOf looseLeft
+  off-sends x y f e =
+      let ch = getD (t .offs) at d in
+      (λ j. offPut (e j)) ∙ (λ j. offPut (offSentOf ch (f j) time (t .offset) reliable h)) ∙ by (eqb reliable 1) (leb (ch .out .len + h .count) 32) refl refl
+    where
+      by : (r m : Bool) → eqb reliable 1 ≡ r → leb (getD (t .offs) at d .out .len + h .count) 32 ≡ m
+          → offPut (offSends r m (getD (t .offs) at d) (unsentLeft (t .latest) (t .source) 0) time (t .offset) h) ≡ sentIn t time k reliable h
+      by false m q z =
+          let v = model.offView (absOff (getD (t .offs) at d)) in
+          off-kept (looseLeft (unsentLeft (t .latest) (t .source) 0) v time (t .offset) (h .count))
+          ∙ loose-same t time (h .count) v (ltb 1 (h .count))
+          ∙ off-loose (looseSent (ltb 1 (h .count)) (timeSet time t) (h .count) v) v refl (eqb-false reliable 1 q) refl
+      by true false q z =
+          off-kept (stoppedLeft (unsentLeft (t .latest) (t .source) 0) time 11)
+          ∙ off-over (eqb-true reliable 1 q) (refusedBy (timeSet time t) 11) (leb-false (getD (t .offs) at d .out .len + h .count) 32 z) refl
+      by true true q z =
+          off-granted (eqb-true reliable 1 q) (model.offView (absOff (getD (t .offs) at d))) _ _ _ refl (leb-true (getD (t .offs) at d .out .len + h .count) 32 z) refl refl refl
+
 -- ---- the whole call: 1, 2, 3, and the rest
 
-pub asked-tested : (k : Key) (reliable n : ℕ) (b : Bool) → b ≡ asked k reliable n → not b ≡ false → asked k reliable n ≡ true
-asked-tested k reliable n b e h = sym e ∙ not-false b h
-
-pub prepare-unformed : (t : Table) (time : ℕ) (k : Key) (reliable : ℕ) (h : Handles) (b : Bool) (s : Sent) → b ≡ wfb t → not b ≡ true → s ≡ refusedBy t 1 → s ≡ preparedBy t time k reliable h
+prepare-unformed : (t : Table) (time : ℕ) (k : Key) (reliable : ℕ) (h : Handles) (b : Bool) (s : Sent) → b ≡ wfb t → not b ≡ true → s ≡ refusedBy t 1 → s ≡ preparedBy t time k reliable h
 unfolding preparedBy
 prepare-unformed t time k reliable h b s e n q = q ∙ ap (λ (o : Outcome). sentOf o) (sym (called-refused (calls.prepare time k reliable (handlesOf h)) t (sym e ∙ not-true b n)))
 
@@ -308,18 +451,80 @@ unfolding preparedBy sentIn reply
 prepare-formed t time k reliable h b e n = ap (λ (o : Outcome). sentOf o) (sym (called-granted (calls.prepare time k reliable (handlesOf h)) t (sym e ∙ not-false b n)))
 
 module _ (t : Table) (time : ℕ) (k : Key) (reliable : ℕ) (h : Handles) (b : Bool) (s : Sent) (e : b ≡ wfb t) (n : not b ≡ false) where
-  pub prepare-is : s ≡ sentIn t time k reliable h → s ≡ preparedBy t time k reliable h
+  prepare-is : s ≡ sentIn t time k reliable h → s ≡ preparedBy t time k reliable h
   prepare-is q = q ∙ prepare-formed t time k reliable h b e n
 
-  pub prepare-malformed : (m : Bool) → m ≡ asked k reliable (h .count) → not m ≡ true → s ≡ refusedBy t 2 → s ≡ preparedBy t time k reliable h
+  prepare-malformed : (m : Bool) → m ≡ asked k reliable (h .count) → not m ≡ true → s ≡ refusedBy t 2 → s ≡ preparedBy t time k reliable h
   prepare-malformed m y z q =
       let no : keyMade k && isFlag reliable && leb (length (handlesOf h)) 16 ≡ false = ap (λ (x : ℕ). keyMade k && isFlag reliable && leb x 16) (length-pad (h .count) 0 (h .handles)) ∙ sym y ∙ not-true m z in
       prepare-is (in-is t time k reliable h s (refuse outOfRange (timed time (abs t))) (sent-malformed time k reliable (handlesOf h) (abs t) no) (q ∙ (λ j. refusedBy (tested t b e n .form j) 2)))
 
-  pub prepare-late : (m : Bool) → m ≡ asked k reliable (h .count) → not m ≡ false → time < t .latest → s ≡ refusedBy t 3 → s ≡ preparedBy t time k reliable h
+  prepare-late : (m : Bool) → m ≡ asked k reliable (h .count) → not m ≡ false → time < t .latest → s ≡ refusedBy t 3 → s ≡ preparedBy t time k reliable h
   unfolding abs
   prepare-late m y z l q =
       let yes : keyMade k && isFlag reliable && leb (length (handlesOf h)) 16 ≡ true = ap (λ (x : ℕ). keyMade k && isFlag reliable && leb x 16) (length-pad (h .count) 0 (h .handles)) ∙ sym y ∙ not-false m z in
       prepare-is (in-is t time k reliable h s (refuse timeBelow (timed time (abs t))) (sent-late time k reliable (handlesOf h) (abs t) yes (lt-leb (t .latest) time l)) (q ∙ (λ j. refusedBy (tested t b e n .form j) 3)))
 
-pub ruleset preparing = (prepare-unformed, prepare-is, prepare-malformed, prepare-late, tested, asked-tested, needs)
+-- where the ways meet
+pub joined : (u v : Table) (a b : Left) (s : Sent) → u ≡ v → a ≡ b → finished v b ≡ s → finished u a ≡ s
+joined u v a b s e f q = (λ j. finished (e j) (f j)) ∙ q
+
+pub on-count-fits : (t : Table) → Wf t → Fits w64 (t .oncount)
+on-count-fits t w = record { fits = omega (arith, on-limit t w) }
+
+pub off-count-fits : (t : Table) → Wf t → Fits w64 (t .offcount)
+off-count-fits t w = record { fits = omega (arith, off-limit t w) }
+
+-- past them, with nothing prepared as yet
+pub record Ready (t : Table) (time : ℕ) (k : Key) (reliable : ℕ) (h : Handles) (a : Left) : Type 0 where
+  pub test : wfb t ≡ true
+  pub form : Wf t
+  pub made : asked k reliable (h .count) ≡ true
+  pub due : t .latest ≤ time
+  pub blank : a ≡ unsentLeft (t .latest) (t .source) 0
+
+module _ (t : Table) (time : ℕ) (k : Key) (reliable : ℕ) (h : Handles) (g : Bool) (a : Left) (e : g ≡ wfb t) (q : a ≡ unsentLeft (t .latest) (t .source) (sendCode g (t .latest) time k reliable (h .count))) where
+  code-is : a .code ≡ sendCode g (t .latest) time k reliable (h .count)
+  code-is = ap (λ (y : Left). y .code) q
+
+  pub ready : a .code ≡ 0 → Ready t time k reliable h a
+  ready z = at g (asked k reliable (h .count)) (ltb time (t .latest)) e refl refl (sym code-is ∙ z)
+    where
+      blank-is : a ≡ unsentLeft (t .latest) (t .source) 0
+      blank-is = q ∙ ap (λ (n : ℕ). unsentLeft (t .latest) (t .source) n) (sym code-is ∙ z)
+
+      at : (g m l : Bool) → g ≡ wfb t → asked k reliable (h .count) ≡ m → ltb time (t .latest) ≡ l → _≡_ {A = ℕ} (cond g (cond m (cond l 3 0) 2) 1) 0 → Ready t time k reliable h a
+      at false m l f y x n = absurd (omega (arith, n))
+      at true false l f y x n = absurd (omega (arith, n))
+      at true true true f y x n = absurd (omega (arith, n))
+      at true true false f y x n = record { test = sym f; form = tested t true f refl; made = y; due = ltb-false time (t .latest) x; blank = blank-is }
+
+  pub prepare-front : (a .code ≡ 0 → ⊥) → finished t a ≡ preparedBy t time k reliable h
+  prepare-front nz = (λ j. finished t (q j)) ∙ at g (asked k reliable (h .count)) (ltb time (t .latest)) e refl refl code-is
+    where
+      at : (g m l : Bool) → g ≡ wfb t → asked k reliable (h .count) ≡ m → ltb time (t .latest) ≡ l → a .code ≡ cond g (cond m (cond l 3 0) 2) 1 → refusedBy t (cond g (cond m (cond l 3 0) 2) 1) ≡ preparedBy t time k reliable h
+      at false m l f y x n = prepare-unformed t time k reliable h false (refusedBy t 1) f refl refl
+      at true false l f y x n = prepare-malformed t time k reliable h true (refusedBy t 2) f refl false (sym y) refl refl
+      at true true true f y x n = prepare-late t time k reliable h true (refusedBy t 3) f refl true (sym y) refl (ltb-true time (t .latest) x) refl
+      at true true false f y x n = absurd (nz n)
+
+module _ (t : Table) (time : ℕ) (k : Key) (reliable : ℕ) (h : Handles) (a : Left) (r : Ready t time k reliable h a) where
+  stops : (y : Left) (n : ℕ) → y ≡ stoppedLeft a time n → finished t y ≡ refusedBy (timeSet time t) n
+  stops y n e = (λ j. finished t (e j)) ∙ (λ j. finished t (stoppedLeft (r .blank j) time n))
+
+  ends : (s : Sent) → s ≡ sentIn t time k reliable h → s ≡ preparedBy t time k reliable h
+  ends s q = prepare-is t time k reliable h true s (sym (r .test)) refl q
+
+  module _ (o : k .on ≡ 1) (at : ℕ) (pl : at ≡ placeOn (k .address) (keyIndex k) (abs t)) where
+    pub prepare-on-absent : (y : Left) → t .oncount ≤ at → y ≡ stoppedLeft a time 13 → finished t y ≡ preparedBy t time k reliable h
+    prepare-on-absent y b e = ends (finished t y) (on-absent t time k reliable h (keyIndex k) at (finished t y) (r .form) (r .made) (r .due) o refl pl b (stops y 13 e))
+
+    pub prepare-on : (x : OnSent) → at < t .oncount → x ≡ onSentOf (getD (t .ons) at outsideOn) a time (t .offset) reliable h → finished (storeOn t (t .oncount) at (x .channel)) (x .left) ≡ preparedBy t time k reliable h
+    prepare-on x b e = ends _ (on-sends t time k reliable h (keyIndex k) at outsideOn (r .form) (r .made) (r .due) o refl pl b x a (r .blank) e)
+
+  module _ (o : k .on ≡ 1 → ⊥) (at : ℕ) (pl : at ≡ placeOff (k .address) (abs t)) where
+    pub prepare-off-absent : (y : Left) → t .offcount ≤ at → y ≡ stoppedLeft a time 13 → finished t y ≡ preparedBy t time k reliable h
+    prepare-off-absent y b e = ends (finished t y) (off-absent t time k reliable h at (finished t y) (r .form) (r .made) (r .due) o pl b (stops y 13 e))
+
+    pub prepare-off : (x : OffSent) → at < t .offcount → x ≡ offSentOf (getD (t .offs) at outsideOff) a time (t .offset) reliable h → finished (storeOff t (t .offcount) at (x .channel)) (x .left) ≡ preparedBy t time k reliable h
+    prepare-off x b e = ends _ (off-sends t time k reliable h at outsideOff (r .form) (r .made) (r .due) o pl b x a (r .blank) e)

@@ -5,6 +5,8 @@ use calls::Done;
 use calls::Handles;
 use calls::Names;
 use calls::Sent;
+use channel::OffChannel;
+use channel::OnChannel;
 use out_list::OutList;
 use packet::Key;
 use packet::OutEntry;
@@ -26,7 +28,7 @@ ghost use Rattle.out_list.specs.Out as out;
 ghost use Rattle.table.specs.Table.{abs, Wf};
 ghost use Rattle.calls.specs.Places.{placeOn};
 ghost use Rattle.calls.specs.Calls.{handlesOf, namesOf, preparedBy, wroteAcks};
-ghost use Rattle.send.specs.Send.{frontCode, absentCode, namesCode, asked, answerOf, refusedBy, looseOf, sentIn};
+ghost use Rattle.send.specs.Send.{frontCode, absentCode, namesCode, asked, sendCode, answerOf, unsentLeft, stoppedLeft, looseLeft, onSentOf, offSentOf};
 
 // ---- acks written
 
@@ -126,26 +128,6 @@ pub fn acks_written(t: Table, k: Key, n: Names) -> Done
 
 // ---- send
 
-// A refusal's answer: its number, and nothing prepared.
-fn refused(t: Table, code: u32) -> Sent
-    ensures { λ s. ⌜ s ≡ refusedBy t code ⌝ }
-{
-    let none = Prepared {
-        allocated: 0,
-        first: 0,
-        on: 0,
-        expected: 0,
-        index: 0,
-        version: 0,
-        offset: 0,
-    };
-    Sent {
-        table: t,
-        code,
-        prepared: none,
-    }
-}
-
 // "`alloc` answers the next number and moves on by the count": where it moves to.
 fn moved_on(next: u32, count: u32) -> u32
     ensures { λ r. ⌜ r ≡ Num.add next count ⌝ }
@@ -198,102 +180,130 @@ fn add_sent(o: OutList, time: u64, first: u32, h: Handles) -> OutList
     r
 }
 
+// What a send leaves beside its channel: the table's time and source, the refusal's number or 0, and what was prepared.
+pub struct Left {
+    pub latest: u64,
+    pub source: u32,
+    pub code: u32,
+    pub prepared: Prepared,
+}
+
+pub struct OnSent {
+    pub channel: OnChannel,
+    pub left: Left,
+}
+
+pub struct OffSent {
+    pub channel: OffChannel,
+    pub left: Left,
+}
+
 // Not reliable: "if .. more than one, allocate; .. from the shared one", and answers none "where nothing was allocated".
-fn send_loose(t: Table, count: u32, v: View) -> Sent
-    ensures { λ s. ⌜ s ≡ looseOf t count v ⌝ }
+fn send_loose(a: Left, v: View, time: u64, offset: u32, count: u32) -> Left
+    ensures { λ b. ⌜ b ≡ looseLeft a v time offset count ⌝ }
 {
-    let mut p = answer(v, t.offset, t.source);
+    let mut p = answer(v, offset, a.source);
+    let mut b = a;
+    b.latest = time;
     if count <= 1 {
         p.allocated = 0;
         p.first = 0;
-        return Sent {
-            table: t,
-            code: 0,
-            prepared: p,
-        };
+        b.prepared = p;
+        return b;
     }
-    let next = moved_on(t.source, count);
-    let mut u = t;
-    u.source = next;
-    Sent {
-        table: u,
-        code: 0,
-        prepared: p,
-    }
+    let next = moved_on(a.source, count);
+    b.source = next;
+    b.prepared = p;
+    b
 }
 
-// "reliable on-channel from its own source"; "Room is judged on the state the rule would end in", and 11 leaves only the time.
-fn send_on(t: Table, time: u64, k: Key, reliable: u32, h: Handles) -> Sent
-    requires { ⌜ Wf t ⌝ }
-    requires { ⌜ asked k reliable (h .count) ≡ true ⌝ }
-    requires { ⌜ t .latest ≤ time ⌝ }
-    requires { ⌜ k .on ≡ 1 ⌝ }
-    ensures { λ s. ⌜ s ≡ sentIn t time k reliable h ⌝ }
+// "Room is judged on the state the rule would end in", and 11 leaves only the time; so does 13.
+fn stopped(a: Left, time: u64, code: u32) -> Left
+    ensures { λ b. ⌜ b ≡ stoppedLeft a time code ⌝ }
 {
-    let index = calls::index_of(k);
-    let at = calls::on_place(t, k.address, index);
-    let mut u = t;
-    u.latest = time;
-    if t.oncount as usize <= at {
-        return refused(u, 13);
-    }
-    let c = t.ons[at];
+    let mut b = a;
+    b.latest = time;
+    b.code = code;
+    b
+}
+
+fn absent(a: Left, time: u64) -> Left
+    ensures { λ b. ⌜ b ≡ stoppedLeft a time 13 ⌝ }
+{
+    stopped(a, time, 13)
+}
+
+// "reliable on-channel from its own source"
+fn send_on(c: OnChannel, a: Left, time: u64, offset: u32, reliable: u32, h: Handles) -> OnSent
+    requires { ⌜ out.Wf (c .out) ⌝ }
+    requires { ⌜ h .count ≤ 16 ⌝ }
+    ensures { λ s. ⌜ s ≡ onSentOf c a time offset reliable h ⌝ }
+{
     let v = channel::on_view(c);
     if reliable != 1 {
-        return send_loose(u, h.count, v);
+        let loose = send_loose(a, v, time, offset, h.count);
+        return OnSent {
+            channel: c,
+            left: loose,
+        };
     }
     let o = c.out;
     if 32 < o.len + h.count {
-        return refused(u, 11);
+        let full = stopped(a, time, 11);
+        return OnSent {
+            channel: c,
+            left: full,
+        };
     }
     let all = add_sent(o, time, c.source, h);
     let next = moved_on(c.source, h.count);
-    let p = answer(v, t.offset, c.source);
+    let p = answer(v, offset, c.source);
     let mut d = c;
     d.source = next;
     d.out = all;
-    u.ons[at] = d;
-    Sent {
-        table: u,
-        code: 0,
-        prepared: p,
+    let mut b = a;
+    b.latest = time;
+    b.prepared = p;
+    OnSent {
+        channel: d,
+        left: b,
     }
 }
 
 // "otherwise from the shared one"
-fn send_off(t: Table, time: u64, k: Key, reliable: u32, h: Handles) -> Sent
-    requires { ⌜ Wf t ⌝ }
-    requires { ⌜ asked k reliable (h .count) ≡ true ⌝ }
-    requires { ⌜ t .latest ≤ time ⌝ }
-    requires { ⌜ (k .on ≡ 1 → ⊥) ⌝ }
-    ensures { λ s. ⌜ s ≡ sentIn t time k reliable h ⌝ }
+fn send_off(c: OffChannel, a: Left, time: u64, offset: u32, reliable: u32, h: Handles) -> OffSent
+    requires { ⌜ out.Wf (c .out) ⌝ }
+    requires { ⌜ h .count ≤ 16 ⌝ }
+    ensures { λ s. ⌜ s ≡ offSentOf c a time offset reliable h ⌝ }
 {
-    let at = calls::off_place(t, k.address);
-    let mut w = t;
-    w.latest = time;
-    if t.offcount as usize <= at {
-        return refused(w, 13);
-    }
-    let c = t.offs[at];
     let v = channel::off_view(c);
     if reliable != 1 {
-        return send_loose(w, h.count, v);
+        let loose = send_loose(a, v, time, offset, h.count);
+        return OffSent {
+            channel: c,
+            left: loose,
+        };
     }
     let l = c.out;
     if 32 < l.len + h.count {
-        return refused(w, 11);
+        let over = stopped(a, time, 11);
+        return OffSent {
+            channel: c,
+            left: over,
+        };
     }
-    let all = add_sent(l, time, t.source, h);
-    let next = moved_on(t.source, h.count);
-    let p = answer(v, t.offset, t.source);
+    let all = add_sent(l, time, a.source, h);
+    let next = moved_on(a.source, h.count);
+    let p = answer(v, offset, a.source);
     let mut d = c;
     d.out = all;
-    w.source = next;
-    w.offs[at] = d;
-    Sent {
-        table: w,
-        code: 0,
-        prepared: p,
+    let mut b = a;
+    b.latest = time;
+    b.source = next;
+    b.prepared = p;
+    OffSent {
+        channel: d,
+        left: b,
     }
 }
 
@@ -304,20 +314,81 @@ fn well_asked(k: Key, reliable: u32, count: u32) -> bool
     k.well_made() & (reliable <= 1) & (count <= 16)
 }
 
+// A refusal's answer: its number, and nothing prepared.
+fn unsent(latest: u64, source: u32, code: u32) -> Left
+    ensures { λ a. ⌜ a ≡ unsentLeft latest source code ⌝ }
+{
+    let none = Prepared {
+        allocated: 0,
+        first: 0,
+        on: 0,
+        expected: 0,
+        index: 0,
+        version: 0,
+        offset: 0,
+    };
+    Left {
+        latest,
+        source,
+        code,
+        prepared: none,
+    }
+}
+
+// 1, 2 and 3, which leave the table as it was.
+fn front(good: bool, latest: u64, source: u32, time: u64, k: Key, reliable: u32, count: u32) -> Left
+    ensures { λ a. ⌜ a ≡ unsentLeft latest source (sendCode good latest time k reliable count) ⌝ }
+{
+    if !good {
+        return unsent(latest, source, 1);
+    }
+    if !well_asked(k, reliable, count) {
+        return unsent(latest, source, 2);
+    }
+    if time < latest {
+        return unsent(latest, source, 3);
+    }
+    unsent(latest, source, 0)
+}
+
+// The table leaves at one place, since each further exit would copy it once more.
 pub fn prepare(t: Table, time: u64, k: Key, reliable: u32, h: Handles) -> Sent
     ensures { λ s. ⌜ s ≡ preparedBy t time k reliable h ⌝ }
 {
-    if !table::well_formed(t) {
-        return refused(t, 1);
+    let good = table::well_formed(t);
+    let mut a = front(good, t.latest, t.source, time, k, reliable, h.count);
+    let mut u = t;
+    if a.code == 0 {
+        if k.on == 1 {
+            let at = on_at(u, k);
+            if u.oncount as usize <= at {
+                a = absent(a, time);
+            } else {
+                let c = u.ons[at];
+                let x = send_on(c, a, time, u.offset, reliable, h);
+                let d = x.channel;
+                u.ons[at] = d;
+                a = x.left;
+            }
+        } else {
+            let at = calls::off_place(u, k.address);
+            if u.offcount as usize <= at {
+                a = absent(a, time);
+            } else {
+                let c = u.offs[at];
+                let y = send_off(c, a, time, u.offset, reliable, h);
+                let d = y.channel;
+                u.offs[at] = d;
+                a = y.left;
+            }
+        }
     }
-    if !well_asked(k, reliable, h.count) {
-        return refused(t, 2);
+    u.latest = a.latest;
+    u.source = a.source;
+    let p = a.prepared;
+    Sent {
+        table: u,
+        code: a.code,
+        prepared: p,
     }
-    if time < t.latest {
-        return refused(t, 3);
-    }
-    if k.on == 1 {
-        return send_on(t, time, k, reliable, h);
-    }
-    send_off(t, time, k, reliable, h)
 }

@@ -1,41 +1,7 @@
-use Rattle.send.proofs.Preparing.{on-absent, on-loose, on-over, on-granted, on-out-wf, on-out-len, asked-few, sum-fits}
-use Rattle.send.proofs.Outside.{outsideOn}
-use Rattle.calls.proofs.Called.{on-index}
-use borrow.Author.Needs.{needs, scaled-fits}
-use lib.Dec.{lit<}
+use Rattle.send.proofs.Preparing.{over-fits, on-sent-loose, on-sent-over, on-sent-granted}
+use borrow.Author.Needs.{needs}
 use Rattle.send.proofs.send_on.Statement.{statement}
 use Rattle.send.proofs.send_on.Tie as tie
-
-index-of-requires : tie.Need-index-of-requires
-index-of-requires c κs = search needs
-
-on-place-requires : tie.Need-on-place-requires
-on-place-requires c κs = search needs
-
-cast-if1 : tie.Need-cast-if1
-cast-if1 c = search needs
-
-refused-requires : tie.Need-refused-requires
-refused-requires c κs = search needs
-
-returns : tie.Need-returns
-returns c =
-    let e1 = c .before in
-    let pl = e1 .before in
-    let ix = pl .before in
-    let s = ix .before in
-    on-absent (s .args .t1) (s .args .time) (s .args .k) (s .args .reliable) (s .args .h) _ _ _ (s .pre .0) (s .pre .1 .0) (s .pre .1 .1 .0) (s .pre .1 .1 .1) (ix .index-of .ensures) (pl .on-place .ensures) (e1 .if1 .taken) (c .refused .ensures)
-
-mul-c : tie.Need-mul-c
-mul-c c = search needs
-
-element-copy-out-c : tie.Need-element-copy-out-c
-element-copy-out-c c =
-    let e1 = c in
-    let pl = e1 .before in
-    let ix = pl .before in
-    let s = ix .before in
-    on-index _ _ (s .pre .0) (c .if1 .left)
 
 on-view-requires : tie.Need-on-view-requires
 on-view-requires c κs = search needs
@@ -43,42 +9,29 @@ on-view-requires c κs = search needs
 send-loose-requires : tie.Need-send-loose-requires
 send-loose-requires c κs = search needs
 
+returns : tie.Need-returns
+returns c =
+    let ov = c .before .before in
+    let s = ov .before in
+    on-sent-loose (s .args .c) (s .args .a) (s .args .time) (s .args .offset) (s .args .reliable) (s .args .h) _ (ov .on-view .ensures) _ (c .before .if1 .taken) (c .send-loose .ensures)
+
+add-if2 : tie.Need-add-if2
+add-if2 c =
+    let s = c .before .before .before .before .before in
+    over-fits (s .args .c .out) (s .args .h .count) (s .pre .0) (s .pre .1)
+
+stopped-requires : tie.Need-stopped-requires
+stopped-requires c κs = search needs
+
 returns-2 : tie.Need-returns-2
 returns-2 c =
-    let ov = c .before .before in
-    let e1 = ov .before .before in
-    let pl = e1 .before in
-    let ix = pl .before in
-    let s = ix .before in
-    on-loose (s .args .t1) (s .args .time) (s .args .k) (s .args .reliable) (s .args .h) _ _ outsideOn (s .pre .0) (s .pre .1 .0) (s .pre .1 .1 .0) (s .pre .1 .1 .1) (ix .index-of .ensures) (pl .on-place .ensures) (e1 .if1 .left) _ _ (ov .on-view .ensures) (c .before .if2 .taken) (c .send-loose .ensures)
-
-add-if3 : tie.Need-add-if3
-add-if3 c =
-    let e1 = c .before .before .before .before .before .before in
-    let pl = e1 .before in
-    let ix = pl .before in
-    let s = ix .before in
-    sum-fits _ _ (on-out-len (s .args .t1) _ outsideOn (s .pre .0) (e1 .if1 .left)) (asked-few (s .args .k) (s .args .reliable) (s .args .h .count) (s .pre .1 .0))
-
-refused-requires-2 : tie.Need-refused-requires-2
-refused-requires-2 c κs = search needs
-
-returns-3 : tie.Need-returns-3
-returns-3 c =
-    let e2 = c .before .before .before .before .before in
-    let e1 = e2 .before .before .before in
-    let pl = e1 .before in
-    let ix = pl .before in
-    let s = ix .before in
-    on-over (s .args .t1) (s .args .time) (s .args .k) (s .args .reliable) (s .args .h) _ _ outsideOn (s .pre .0) (s .pre .1 .0) (s .pre .1 .1 .0) (s .pre .1 .1 .1) (ix .index-of .ensures) (pl .on-place .ensures) (e1 .if1 .left) (e2 .if2 .left) _ (c .before .if3 .taken) (c .refused2 .ensures)
+    let e1 = c .before .before .before .before .before in
+    let ov = e1 .before in
+    let s = ov .before in
+    on-sent-over (s .args .c) (s .args .a) (s .args .time) (s .args .offset) (s .args .reliable) (s .args .h) _ (ov .on-view .ensures) (e1 .if1 .left) _ (c .before .if2 .taken) (c .stopped .ensures)
 
 add-sent-requires : tie.Need-add-sent-requires
-add-sent-requires c κs =
-    let e1 = c .before .before .before .before .before .before .before in
-    let pl = e1 .before in
-    let ix = pl .before in
-    let s = ix .before in
-    (on-out-wf (s .args .t1) _ outsideOn (s .pre .0) (e1 .if1 .left), (asked-few (s .args .k) (s .args .reliable) (s .args .h .count) (s .pre .1 .0), c .if3 .left))
+add-sent-requires c κs = search needs
 
 moved-on-requires : tie.Need-moved-on-requires
 moved-on-requires c κs = search needs
@@ -86,59 +39,25 @@ moved-on-requires c κs = search needs
 answer-requires : tie.Need-answer-requires
 answer-requires c κs = search needs
 
-mul-d : tie.Need-mul-d
-mul-d c =
-    let e3 = c .before .before .before in
-    let e2 = e3 .before .before .before .before in
-    let ov = e2 .before in
-    let e1 = ov .before .before in
-    let pl = e1 .before in
-    let ix = pl .before in
-    let s = ix .before in
-    scaled-fits _ 8 _ (on-index _ _ (s .pre .0) (e1 .if1 .left)) (lit< tt)
-
-element-set-from-d : tie.Need-element-set-from-d
-element-set-from-d c =
-    let e3 = c .before .before .before in
-    let e2 = e3 .before .before .before .before in
-    let ov = e2 .before in
-    let e1 = ov .before .before in
-    let pl = e1 .before in
-    let ix = pl .before in
-    let s = ix .before in
-    on-index _ _ (s .pre .0) (e1 .if1 .left)
-
-returns-4 : tie.Need-returns-4
-returns-4 c =
-    let e3 = c .before .before .before in
-    let e2 = e3 .before .before .before .before in
-    let ov = e2 .before in
-    let e1 = ov .before .before in
-    let pl = e1 .before in
-    let ix = pl .before in
-    let s = ix .before in
-    on-granted (s .args .t1) (s .args .time) (s .args .k) (s .args .reliable) (s .args .h) _ _ outsideOn (s .pre .0) (s .pre .1 .0) (s .pre .1 .1 .0) (s .pre .1 .1 .1) (ix .index-of .ensures) (pl .on-place .ensures) (e1 .if1 .left) (e2 .if2 .left) _ _ _ _ (ov .on-view .ensures) (e3 .if3 .left) (c .before .before .add-sent .ensures) (c .before .moved-on .ensures) (c .answer .ensures)
+returns-3 : tie.Need-returns-3
+returns-3 c =
+    let e2 = c .before .before .before in
+    let e1 = e2 .before .before .before .before in
+    let ov = e1 .before in
+    let s = ov .before in
+    on-sent-granted (s .args .c) (s .args .a) (s .args .time) (s .args .offset) (s .args .reliable) (s .args .h) _ (ov .on-view .ensures) (e1 .if1 .left) _ _ _ (e2 .if2 .left) (c .before .before .add-sent .ensures) (c .before .moved-on .ensures) (c .answer .ensures)
 
 pub send-on-spec : {M : Type 1} → statement M
 send-on-spec =
     tie.close
     (tie.spec
-    index-of-requires
-    on-place-requires
-    cast-if1
-    refused-requires
-    returns
-    mul-c
-    element-copy-out-c
     on-view-requires
     send-loose-requires
+    returns
+    add-if2
+    stopped-requires
     returns-2
-    add-if3
-    refused-requires-2
-    returns-3
     add-sent-requires
     moved-on-requires
     answer-requires
-    mul-d
-    element-set-from-d
-    returns-4)
+    returns-3)
