@@ -1,20 +1,18 @@
 -- A resend leaves as they are the lists whose entries are neither given up nor due, and they have no rows. Assumes nothing.
 use mathlib.Core.Path.{_≡_, refl, ap, sym, _∙_}
-use mathlib.Core.Bool.{Bool, true, false, not, cond, _&&_}
+use mathlib.Core.Bool.{Bool, true, false, not, _&&_}
 use mathlib.Core.List.{List, [], _∷_, _++_, map}
 use Prim.Native.Nat.{ℕ, zero, suc, _+_, _≤_, _<_}
 use native.Mathlib.Omega.{arith}
 use borrow.Author.Needs.{needs}
-use borrow.Author.Tests.{not-true}
-use lib.Dec.{ltb}
-use lib.ListN.{length, getD}
+use borrow.Author.Tests.{not-true, not-false}
+use lib.ListN.{length, drop, getD}
 use Rattle.lists.specs.Pad.{pad, allb}
 use Rattle.lists.specs.Find.{keepBy, joined}
-use Rattle.lists.proofs.Pad.{and-left, and-right, length-of-map}
+use Rattle.lists.proofs.Pad.{and-left, and-right, length-of-map, allb-hit, allb-step, allb-end}
 use Rattle.lists.proofs.Find.{keep-all, keep-none}
 use Rattle.lists.proofs.Tests.{allb-weaken}
 use Rattle.lists.proofs.Maps.{map-kept}
-use Rattle.lists.proofs.Looking.{Testing, testing-start, testing-step, testing-end}
 use Rattle.packet.specs.declared.OutEntry.{OutEntry}
 use Rattle.model.specs.Rust.{young, due, mark, row}
 use Rattle.out_list.specs.declared.OutList.{OutList}
@@ -24,37 +22,29 @@ use Rattle.channel.specs.declared.OffChannel.{OffChannel}
 use Rattle.channel.specs.declared.OnChannel.{OnChannel}
 use Rattle.resends.specs.Resends.{listCalm, offCalm, onCalm, listRows, listSent}
 
--- a value chosen either way
-either : (b x : Bool) → x ≡ cond b x x
-either true x = refl
-either false x = refl
 
 module _ {A : Type 0} where
   -- ---- the loop over an array of channels
 
+  pub record Calming (f : A → Bool) (N : ℕ) (l : List A) (i : ℕ) : Type 0 where
+    pub below : i ≤ N
+    pub size : length l ≡ N
+    pub rest : allb f (drop i l) ≡ allb f l
+
   module _ (f : A → Bool) (N : ℕ) (l : List A) where
-    abbrev pub Calming : Bool → ℕ → Type 0
-    Calming good i = Testing f f N 0 l good i
+    pub calming-start : length l ≡ N → Calming f N l 0
+    calming-start h = record { below = omega arith; size = h; rest = refl }
 
-    pub calming-start : length l ≡ N → Calming true 0
-    calming-start h = testing-start f f N 0 l h
+    module _ (i : ℕ) (s : Calming f N l i) where
+      pub calming-hit : (b : Bool) (d : A) → i < N → b ≡ f (getD l i d) → not b ≡ true → false ≡ allb f l
+      calming-hit b d h e q = sym (allb-hit f d l i (omega (arith, s .size)) (sym e ∙ not-true b q)) ∙ s .rest
 
-    pub calming-step : (good b : Bool) (i : ℕ) (d : A) → Calming good i → i < N → b ≡ f (getD l i d) → Calming (good && b) (i + 1)
-    calming-step good b i d t h e = testing-step f f N 0 l good i d b t h (e ∙ either (ltb i 0) (f (getD l i d)))
+      pub calming-step : (b : Bool) (d : A) → i < N → b ≡ f (getD l i d) → not b ≡ false → Calming f N l (i + 1)
+      calming-step b d h e q =
+          record { below = omega arith; size = s .size; rest = allb-step f d l i (omega (arith, s .size)) (sym e ∙ not-false b q) ∙ s .rest }
 
-    pub calming-end : (good : Bool) (i : ℕ) → Calming good i → N ≤ i → good ≡ allb f l
-    unfolding allb
-    calming-end good i t h = testing-end f f N 0 l good i t h
-
-pub off-step : (l : List OffChannel) (t timeout giveUp : ℕ) (good b : Bool) (i : ℕ) (d : OffChannel) → Calming (offCalm t timeout giveUp) 4 l good i → i < 4
-    → b ≡ listCalm t timeout giveUp (getD l i d .out) → Calming (offCalm t timeout giveUp) 4 l (good && b) (i + 1)
-unfolding offCalm
-off-step l t timeout giveUp good b i d s h e = calming-step (offCalm t timeout giveUp) 4 l good b i d s h e
-
-pub on-step : (l : List OnChannel) (t timeout giveUp : ℕ) (good b : Bool) (i : ℕ) (d : OnChannel) → Calming (onCalm t timeout giveUp) 8 l good i → i < 8
-    → b ≡ listCalm t timeout giveUp (getD l i d .out) → Calming (onCalm t timeout giveUp) 8 l (good && b) (i + 1)
-unfolding onCalm
-on-step l t timeout giveUp good b i d s h e = calming-step (onCalm t timeout giveUp) 8 l good b i d s h e
+      pub calming-end : N ≤ i → true ≡ allb f l
+      calming-end h = sym (allb-end f l i (omega (arith, s .size))) ∙ s .rest
 
 pub both-calm : (t timeout giveUp : ℕ) (y : List OffChannel) (z : List OnChannel) (a b : Bool) → a ≡ allb (offCalm t timeout giveUp) y → b ≡ allb (onCalm t timeout giveUp) z → a && b ≡ allb (offCalm t timeout giveUp) y && allb (onCalm t timeout giveUp) z
 both-calm t timeout giveUp y z a b p q = λ j. p j && q j

@@ -86,7 +86,6 @@ module _ {A : Type 0} (K : Kind A) (t timeout giveUp : ℕ) (f : A → Bool) (is
 
 module _ (t timeout giveUp : ℕ) (l : List OffChannel) (n : ℕ) (q : allb (offCalm t timeout giveUp) l ≡ true) where
   off-is : (c : OffChannel) → offCalm t timeout giveUp c ≡ true → listCalm t timeout giveUp (c .out) ≡ true
-  unfolding offCalm
   off-is c p = p
 
   offs-none : offRows t timeout giveUp l n ≡ []
@@ -97,7 +96,6 @@ module _ (t timeout giveUp : ℕ) (l : List OffChannel) (n : ℕ) (q : allb (off
 
 module _ (t timeout giveUp : ℕ) (l : List OnChannel) (n : ℕ) (q : allb (onCalm t timeout giveUp) l ≡ true) where
   on-is : (c : OnChannel) → onCalm t timeout giveUp c ≡ true → listCalm t timeout giveUp (c .out) ≡ true
-  unfolding onCalm
   on-is c p = p
 
   ons-none : onRows t timeout giveUp l n ≡ []

@@ -39,10 +39,10 @@ listed a t timeout giveUp o at = record { out = listSent t timeout giveUp o; nex
 abbrev pub listCalm : ℕ → ℕ → ℕ → OutList → Bool
 listCalm t timeout giveUp o = allb (out.calm t timeout giveUp) (out.abs o)
 
-unfoldable pub offCalm : ℕ → ℕ → ℕ → OffChannel → Bool
+abbrev pub offCalm : ℕ → ℕ → ℕ → OffChannel → Bool
 offCalm t timeout giveUp c = listCalm t timeout giveUp (c .out)
 
-unfoldable pub onCalm : ℕ → ℕ → ℕ → OnChannel → Bool
+abbrev pub onCalm : ℕ → ℕ → ℕ → OnChannel → Bool
 onCalm t timeout giveUp c = listCalm t timeout giveUp (c .out)
 
 -- ---- the first n channels of an array: their rows, in order of creation, and the array after it, whose other places stay zero

@@ -38,29 +38,31 @@ fn refused(t: Table, code: u32) -> Resent
 fn offs_quiet(l: [OffChannel; 4], time: u64, timeout: u64, give_up: u64) -> bool
     ensures { λ r. ⌜ r ≡ allb (offCalm time timeout «give_up») l ⌝ }
 {
-    let mut good = true;
     let mut i: usize = 0;
     while i < 4 {
         let c = l[i];
         let o = c.out;
-        good = good & out_list::quiet(o, time, timeout, give_up);
+        if !out_list::quiet(o, time, timeout, give_up) {
+            return false;
+        }
         i += 1;
     }
-    good
+    true
 }
 
 fn ons_quiet(l: [OnChannel; 8], time: u64, timeout: u64, give_up: u64) -> bool
     ensures { λ r. ⌜ r ≡ allb (onCalm time timeout «give_up») l ⌝ }
 {
-    let mut good = true;
     let mut i: usize = 0;
     while i < 8 {
         let c = l[i];
         let o = c.out;
-        good = good & out_list::quiet(o, time, timeout, give_up);
+        if !out_list::quiet(o, time, timeout, give_up) {
+            return false;
+        }
         i += 1;
     }
-    good
+    true
 }
 
 fn quiet(t: Table, time: u64, timeout: u64, give_up: u64) -> bool

@@ -1,15 +1,15 @@
--- The first i channels are tested. Assumes nothing.
+-- The first i channels stay as they are. Assumes nothing.
 use Prim.Native.Nat.{_-_}
 use Rattle.resends.specs.Resends.{onCalm}
-use Rattle.resends.proofs.Calm.{Calming, on-step, calming}
+use Rattle.resends.proofs.Calm.{Calming, calming-hit, calming-step, calming}
 use Rattle.resends.proofs.ons_quiet.Statement.{statement}
 use Rattle.resends.proofs.ons_quiet.Tie as tie
 
 abbrev Inv-loop : tie.InvT-loop
-Inv-loop time timeout give-up l good₀ i₀ good i = Calming (onCalm time timeout give-up) 8 l good i
+Inv-loop time timeout give-up l i₀ i = Calming (onCalm time timeout give-up) 8 l i
 
 abbrev μ-loop : tie.MeasureT-loop
-μ-loop time timeout give-up l good₀ i₀ good i = 8 - i
+μ-loop time timeout give-up l i₀ i = 8 - i
 
 loop-holds : tie.Need-loop-holds Inv-loop μ-loop
 loop-holds c = search calming
@@ -23,6 +23,11 @@ array-copy-out-c c = search calming
 quiet-requires : tie.Need-quiet-requires Inv-loop μ-loop
 quiet-requires c κs = search calming
 
+returns : tie.Need-returns Inv-loop μ-loop
+returns c =
+    let s = c .before .before .before .before .before .loop .inv in
+    calming-hit _ _ _ _ s _ _ (c .before .before .before .before .loop-test .taken) (c .before .quiet .ensures) (c .if1 .taken)
+
 add-i : tie.Need-add-i Inv-loop μ-loop
 add-i c = search calming
 
@@ -30,10 +35,12 @@ loop-less : tie.Need-loop-less Inv-loop μ-loop
 loop-less c = search calming
 
 loop-again : tie.Need-loop-again Inv-loop μ-loop
-loop-again c = on-step _ _ _ _ _ _ _ _ (c .before .before .before .before .loop .inv) (c .before .before .before .loop-test .taken) (c .quiet .ensures)
+loop-again c =
+    let s = c .before .before .before .before .before .loop .inv in
+    calming-step _ _ _ _ s _ _ (c .before .before .before .before .loop-test .taken) (c .before .quiet .ensures) (c .if1 .left)
 
-returns : tie.Need-returns Inv-loop μ-loop
-returns c = search calming
+returns-2 : tie.Need-returns-2 Inv-loop μ-loop
+returns-2 c = search calming
 
 pub ons-quiet-spec : {M : Type 1} → statement M
 ons-quiet-spec =
@@ -45,7 +52,8 @@ ons-quiet-spec =
     mul-c
     array-copy-out-c
     quiet-requires
+    returns
     add-i
     loop-less
     loop-again
-    returns)
+    returns-2)
