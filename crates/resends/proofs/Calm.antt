@@ -22,7 +22,6 @@ use Rattle.channel.specs.declared.OffChannel.{OffChannel}
 use Rattle.channel.specs.declared.OnChannel.{OnChannel}
 use Rattle.resends.specs.Resends.{listCalm, offCalm, onCalm, listRows, listSent}
 
-
 module _ {A : Type 0} where
   -- ---- the loop over an array of channels
 
