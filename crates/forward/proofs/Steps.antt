@@ -10,7 +10,7 @@ use Rattle.calls.proofs.Called.{on-limit, off-limit, tested}
 use Rattle.channel.specs.declared.OnChannel.{OnChannel}
 use Rattle.forward.specs.Forward.{onKeyed}
 use Rattle.forward.proofs.Places.{ons-length, offs-length}
-use Rattle.forward.proofs.Out.{stop-unformed, stop-bad, stop-before, stop-on-full, stop-off-full, go-on, go-off, out-stopped}
+use Rattle.forward.proofs.Out.{stop-unformed, stop-bad, stop-before, stop-on-full, stop-off-full, go-on, go-off}
 use Rattle.forward.proofs.Find.{place-unformed, place-malformed, place-on-full, place-off-full, place-on, place-off, exit-refused, exit-on-made, exit-on-there, exit-off-made, exit-off-there, on-few, off-few}
 
 pub flagged-yes : (flag value : ℕ) → flag ≡ 1 → value ≡ cond (isSet flag) value 0
@@ -38,4 +38,4 @@ keyed-new at count a i v i' v' c h p q = (λ j. onKeyed a (p j) (q j) c) ∙ sym
 
 pub ruleset steps = (keyed-new, seen-yes, seen-no, flagged-yes, flagged-no, taken-there, taken-new, on-limit, off-limit, ons-length, offs-length, place-unformed, place-malformed, place-on-full, place-off-full, place-on, place-off, exit-refused, exit-on-made, exit-on-there, exit-off-made, exit-off-there, on-few, off-few, tested, needs)
 
-pub ruleset sends = (on-limit, off-limit, ons-length, offs-length, stop-unformed, stop-bad, stop-before, stop-on-full, stop-off-full, go-on, go-off, out-stopped, tested, needs)
+pub ruleset sends = (on-limit, off-limit, ons-length, offs-length, stop-unformed, stop-bad, stop-before, stop-on-full, stop-off-full, go-on, go-off, tested, needs)

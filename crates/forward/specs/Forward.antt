@@ -70,10 +70,11 @@ onKeyed a i v c =
 abbrev pub offKeyed : ℕ → OffChannel → OffChannel
 offKeyed a c = record { address = a; out = c .out; acks = c .acks; groups = c .groups; bundles = c .bundles }
 
--- forwarded out, before the channel is looked at: a refusal with the time that it leaves, or the place of the record's channel
+-- a refusal with the time that it leaves
 abbrev pub stoppedBy : ℕ → ℕ → Timed
 stoppedBy n latest = record { code = n; at = 0; latest = latest }
 
+-- the table at another time
 abbrev pub timedAt : ℕ → Table → Table
 timedAt time t =
     record {
@@ -88,6 +89,7 @@ timedAt time t =
       ons = t .ons;
     }
 
+-- forwarded out, before the channel is looked at: a refusal with the time that it leaves, or the place of the record's channel
 pub record Forwarded (t : Table) (time a : ℕ) (r : Record) (y : Timed) : Type 0 where
   pub refused : (y .code ≡ 0 → ⊥) → refusedBy (timedAt (y .latest) t) (y .code) ≡ acceptedOut t time a r
   pub formed : y .code ≡ 0 → wfb t ≡ true
