@@ -4,10 +4,11 @@ use mathlib.Core.Bool.{Bool, true, false, not}
 use mathlib.Core.List.{List, [], _∷_}
 use Prim.Native.Nat.{ℕ, _≤_, _<_}
 use native.Mathlib.Omega.{arith}
-use borrow.Author.Tests.{le-leb, lt-leb, not-true, not-false}
+use borrow.Author.Tests.{le-leb, lt-leb, eq-eqb, ne-eqb, eqb-true, eqb-false, not-true, not-false}
 use borrow.Author.Needs.{needs}
-use lib.Dec.{leb}
+use lib.Dec.{leb, eqb}
 use lib.ListN.{length, drop, getD}
+use lib.Seq.{set-getD}
 use Rattle.lists.specs.Find.{written}
 use Rattle.lists.proofs.Pad.{length-of-map}
 use Rattle.packet.specs.declared.Key.{Key}
@@ -36,7 +37,7 @@ use Rattle.calls.specs.Calls.{Outcome, tableReply, called, poppedOf, nextLent}
 use Rattle.calls.proofs.Called.{tested, key-tested, keyPlaceOn, keyPlaceOff, key-placed, on-standing, on-standing-below, off-standing, off-standing-below, called-refused, called-granted, on-key-there, on-key-absent, on-key-fits, on-key-store, on-key-data, on-index, off-key-there, off-key-absent, off-key-fits, off-key-store, off-key-data, off-index}
 use Rattle.handout.specs.declared.Offer.{Offer}
 use Rattle.handout.specs.declared.Spot.{Spot}
-use Rattle.handout.specs.Handout.{offeredIf, offered, offerOf, Refusing, OnSpot, OffSpot, Spotted}
+use Rattle.handout.specs.Handout.{offeredIf, offered, offerOf, leftOf, Refusing, OnSpot, OffSpot, Spotted}
 
 -- ---- what is offered of the bundles that wait
 
@@ -91,6 +92,14 @@ pub front-fits : (b : Bundles) (n m : ℕ) → n ≡ length (bundles.front (bund
 front-fits b n m e h = omega (arith, e)
 
 pub ruleset offering = (offer-none, offer-short, offer-made, lent-none, lent-short, lent-made, front-fits, needs)
+
+pub left-kept : (b : Bundles) (n : ℕ) → (n ≡ 1 → ⊥) → b ≡ leftOf (eqb n 1) b
+left-kept b n h = ap (λ (v : Bool). leftOf v b) (sym (ne-eqb n 1 h))
+
+pub left-gone : (b r : Bundles) (n : ℕ) → n ≡ 1 → r ≡ bundles.repr (drop 1 (bundles.abs b)) → r ≡ leftOf (eqb n 1) b
+left-gone b r n h q = q ∙ ap (λ (v : Bool). leftOf v b) (sym (eq-eqb n 1 h))
+
+pub ruleset leaving = (left-kept, left-gone, needs)
 
 -- ---- the model's rule, from what is offered
 
@@ -276,6 +285,14 @@ module _ (t : Table) (k : Key) (at : ℕ) (d : OffChannel) (h : OffSpot t k at) 
       ∙ off-key-store t off-wf k o off-below (model.withBundles bs (keyOff k p .off))
       ∙ ap (λ (x : model.OffData). repr (model.withProtocol (putData k (model.withBundles bs x) p) (abs t))) (sym (off-key-data k p o))
 
+-- ---- a channel stored as it was
+
+on-again : (t : Table) (at : ℕ) (d : OnChannel) → storeOn t (t .oncount) at (getD (t .ons) at d) ≡ t
+on-again t at d = λ i. record { latest = t .latest; forwarding = t .forwarding; prefix = t .prefix; offset = t .offset; source = t .source; offcount = t .offcount; oncount = t .oncount; offs = t .offs; ons = set-getD (t .ons) at d i }
+
+off-again : (t : Table) (at : ℕ) (d : OffChannel) → storeOff t (t .offcount) at (getD (t .offs) at d) ≡ t
+off-again t at d = λ i. record { latest = t .latest; forwarding = t .forwarding; prefix = t .prefix; offset = t .offset; source = t .source; offcount = t .offcount; oncount = t .oncount; ons = t .ons; offs = set-getD (t .offs) at d i }
+
 -- ---- the place: 1, 2, 13, and the channel of the key
 
 spot-refused : (t : Table) (k : Key) (n : ℕ) → (n ≡ 0 → ⊥) → ((l : List ℕ) → Refusing t k n l) → Spotted t k (record { code = n; at = 0 })
@@ -349,14 +366,26 @@ module _ (t : Table) (k : Key) (s : Spot) (p : Spotted t k s) (z : s .code ≡ 0
         pub on-lent : (out : List ℕ) → out ≡ lent (offered (bundles.abs (getD (t .ons) (s .at) d .bundles)) (length l)) l → out ≡ nextLent t k l
         on-lent out y = here-lent t k l (p .on z o .form) (p .on z o .made) (getD (t .ons) (s .at) d .bundles) on-there (on-same t k (s .at) d (p .on z o) o) out y
 
-        pub on-kept : (x : Offer) → x ≡ offerOf (offered (bundles.abs (getD (t .ons) (s .at) d .bundles)) (length l)) → (x .some ≡ 1 → ⊥)
+        on-kept : (x : Offer) → x ≡ offerOf (offered (bundles.abs (getD (t .ons) (s .at) d .bundles)) (length l)) → (x .some ≡ 1 → ⊥)
             → _≡_ {A = Popped} (record { table = t; code = x .code; some = x .some; len = x .len }) (Calls.nextOf t k l)
         on-kept x e w = kept-is t k l (p .on z o .form) (p .on z o .made) (getD (t .ons) (s .at) d .bundles) on-there (on-same t k (s .at) d (p .on z o) o) x e w
 
-        pub on-gone : (x : Offer) (r : Bundles) → x ≡ offerOf (offered (bundles.abs (getD (t .ons) (s .at) d .bundles)) (length l)) → x .some ≡ 1 → r ≡ bundles.repr (drop 1 (bundles.abs (getD (t .ons) (s .at) d .bundles)))
+        on-gone : (x : Offer) (r : Bundles) → x ≡ offerOf (offered (bundles.abs (getD (t .ons) (s .at) d .bundles)) (length l)) → x .some ≡ 1 → r ≡ bundles.repr (drop 1 (bundles.abs (getD (t .ons) (s .at) d .bundles)))
             → _≡_ {A = Popped} (record { table = storeOn t (t .oncount) (s .at) (onBundles (getD (t .ons) (s .at) d) r); code = x .code; some = x .some; len = x .len }) (Calls.nextOf t k l)
         on-gone x r e w q =
             gone-is t k l (p .on z o .form) (p .on z o .made) (getD (t .ons) (s .at) d .bundles) on-there (on-same t k (s .at) d (p .on z o) o) x (storeOn t (t .oncount) (s .at) (onBundles (getD (t .ons) (s .at) d) r)) e w (on-popped t k (s .at) d (p .on z o) r o q)
+
+        -- the channel is stored in either case
+        pub on-stored : (x : Offer) (r : Bundles) → x ≡ offerOf (offered (bundles.abs (getD (t .ons) (s .at) d .bundles)) (length l)) → r ≡ leftOf (eqb (x .some) 1) (getD (t .ons) (s .at) d .bundles)
+            → _≡_ {A = Popped} (record { table = storeOn t (t .oncount) (s .at) (onBundles (getD (t .ons) (s .at) d) r); code = x .code; some = x .some; len = x .len }) (Calls.nextOf t k l)
+        on-stored x r e q = cases (eqb (x .some) 1) refl q
+          where
+            cases : (v : Bool) → eqb (x .some) 1 ≡ v → r ≡ leftOf v (getD (t .ons) (s .at) d .bundles) → _≡_ {A = Popped} (record { table = storeOn t (t .oncount) (s .at) (onBundles (getD (t .ons) (s .at) d) r); code = x .code; some = x .some; len = x .len }) (Calls.nextOf t k l)
+            cases true h y = on-gone x r e (eqb-true (x .some) 1 h) y
+            cases false h y =
+                (λ i. record { table = storeOn t (t .oncount) (s .at) (onBundles (getD (t .ons) (s .at) d) (y i)); code = x .code; some = x .some; len = x .len })
+                ∙ ap (λ (u : Table). record { table = u; code = x .code; some = x .some; len = x .len }) (on-again t (s .at) d)
+                ∙ on-kept x e (eqb-false (x .some) 1 h)
 
   module _ (o : k .on ≡ 1 → ⊥) where
     pub off-at : s .at < 4
@@ -373,13 +402,25 @@ module _ (t : Table) (k : Key) (s : Spot) (p : Spotted t k s) (z : s .code ≡ 0
         pub off-lent : (out : List ℕ) → out ≡ lent (offered (bundles.abs (getD (t .offs) (s .at) d .bundles)) (length l)) l → out ≡ nextLent t k l
         off-lent out y = here-lent t k l (p .off z o .form) (p .off z o .made) (getD (t .offs) (s .at) d .bundles) off-there (off-same t k (s .at) d (p .off z o) o) out y
 
-        pub off-kept : (x : Offer) → x ≡ offerOf (offered (bundles.abs (getD (t .offs) (s .at) d .bundles)) (length l)) → (x .some ≡ 1 → ⊥)
+        off-kept : (x : Offer) → x ≡ offerOf (offered (bundles.abs (getD (t .offs) (s .at) d .bundles)) (length l)) → (x .some ≡ 1 → ⊥)
             → _≡_ {A = Popped} (record { table = t; code = x .code; some = x .some; len = x .len }) (Calls.nextOf t k l)
         off-kept x e w = kept-is t k l (p .off z o .form) (p .off z o .made) (getD (t .offs) (s .at) d .bundles) off-there (off-same t k (s .at) d (p .off z o) o) x e w
 
-        pub off-gone : (x : Offer) (r : Bundles) → x ≡ offerOf (offered (bundles.abs (getD (t .offs) (s .at) d .bundles)) (length l)) → x .some ≡ 1 → r ≡ bundles.repr (drop 1 (bundles.abs (getD (t .offs) (s .at) d .bundles)))
+        off-gone : (x : Offer) (r : Bundles) → x ≡ offerOf (offered (bundles.abs (getD (t .offs) (s .at) d .bundles)) (length l)) → x .some ≡ 1 → r ≡ bundles.repr (drop 1 (bundles.abs (getD (t .offs) (s .at) d .bundles)))
             → _≡_ {A = Popped} (record { table = storeOff t (t .offcount) (s .at) (offBundles (getD (t .offs) (s .at) d) r); code = x .code; some = x .some; len = x .len }) (Calls.nextOf t k l)
         off-gone x r e w q =
             gone-is t k l (p .off z o .form) (p .off z o .made) (getD (t .offs) (s .at) d .bundles) off-there (off-same t k (s .at) d (p .off z o) o) x (storeOff t (t .offcount) (s .at) (offBundles (getD (t .offs) (s .at) d) r)) e w (off-popped t k (s .at) d (p .off z o) r o q)
 
-pub ruleset answering = (next-refused, lent-refused, on-at, on-waiting, on-lent, on-kept, on-gone, off-at, off-waiting, off-lent, off-kept, off-gone, length-of-map, needs)
+        -- the channel is stored in either case
+        pub off-stored : (x : Offer) (r : Bundles) → x ≡ offerOf (offered (bundles.abs (getD (t .offs) (s .at) d .bundles)) (length l)) → r ≡ leftOf (eqb (x .some) 1) (getD (t .offs) (s .at) d .bundles)
+            → _≡_ {A = Popped} (record { table = storeOff t (t .offcount) (s .at) (offBundles (getD (t .offs) (s .at) d) r); code = x .code; some = x .some; len = x .len }) (Calls.nextOf t k l)
+        off-stored x r e q = cases (eqb (x .some) 1) refl q
+          where
+            cases : (v : Bool) → eqb (x .some) 1 ≡ v → r ≡ leftOf v (getD (t .offs) (s .at) d .bundles) → _≡_ {A = Popped} (record { table = storeOff t (t .offcount) (s .at) (offBundles (getD (t .offs) (s .at) d) r); code = x .code; some = x .some; len = x .len }) (Calls.nextOf t k l)
+            cases true h y = off-gone x r e (eqb-true (x .some) 1 h) y
+            cases false h y =
+                (λ i. record { table = storeOff t (t .offcount) (s .at) (offBundles (getD (t .offs) (s .at) d) (y i)); code = x .code; some = x .some; len = x .len })
+                ∙ ap (λ (u : Table). record { table = u; code = x .code; some = x .some; len = x .len }) (off-again t (s .at) d)
+                ∙ off-kept x e (eqb-false (x .some) 1 h)
+
+pub ruleset answering = (next-refused, lent-refused, on-at, on-waiting, on-lent, on-stored, off-at, off-waiting, off-lent, off-stored, length-of-map, needs)

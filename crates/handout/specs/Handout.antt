@@ -4,11 +4,13 @@ use mathlib.Core.Bool.{Bool, true, false}
 use mathlib.Core.List.{List, [], _∷_}
 use Prim.Native.Nat.{ℕ, _≤_, _<_}
 use lib.Dec.{leb}
-use lib.ListN.{length, getD}
+use lib.ListN.{length, drop, getD}
 use Rattle.packet.specs.declared.Key.{Key}
 use Rattle.packet.specs.Data.{keyIndex, keyMade}
 use Rattle.model.specs.Refusals.{listTooShort}
 use Rattle.model.specs.Calls.{Answer, refused, noBundle, bundle}
+use Rattle.bundles.specs.declared.Bundles.{Bundles}
+use Rattle.bundles.specs.Bundles as bundles
 use Rattle.channel.specs.declared.OffChannel.{OffChannel}
 use Rattle.channel.specs.declared.OnChannel.{OnChannel}
 use Rattle.channel.specs.Channel.{WfOff, WfOn}
@@ -32,6 +34,11 @@ offered (b ∷ bs) places = offeredIf (leb (length b) places) b
 
 abbrev pub offerOf : Answer → Offer
 offerOf a = record { code = codeOf a; some = someOf a; len = lengthOf a }
+
+-- the bundles that stay, where one is handed out or none
+abbrev pub leftOf : Bool → Bundles → Bundles
+leftOf true b = bundles.repr (drop 1 (bundles.abs b))
+leftOf false b = b
 
 -- next bundle refuses with that number, and leaves the table and the lent list
 pub record Refusing (t : Table) (k : Key) (code : ℕ) (l : List ℕ) : Type 0 where

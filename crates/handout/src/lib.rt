@@ -10,6 +10,7 @@ use packet::Key;
 use table::Table;
 ghost use mathlib.Core.Path.{_≡_};
 ghost use mathlib.Core.List.{map};
+ghost use lib.Dec.{eqb};
 ghost use lib.ListN.{length, take};
 ghost use Rattle.lists.specs.Find.{has};
 ghost use Rattle.model.specs.Calls as model;
@@ -17,7 +18,7 @@ ghost use Rattle.model.specs.Rust.{holdsOff, holdsOn};
 ghost use Rattle.bundles.specs.Bundles as waiting;
 ghost use Rattle.channel.specs.Channel.{absOff, absOn};
 ghost use Rattle.calls.specs.Calls.{nextOf, nextLent, holdsOf, lastPrefix, resetOf, transferOf};
-ghost use Rattle.handout.specs.Handout.{offered, offerOf, Spotted, OffsWf, OnsWf};
+ghost use Rattle.handout.specs.Handout.{offered, offerOf, leftOf, Spotted, OffsWf, OnsWf};
 
 // What comes of a channel's bundles: the refusal's number or 0, whether one is handed out, and its length.
 pub struct Offer {
@@ -63,6 +64,17 @@ fn hand_out(b: Bundles, lent: &mut [u32]) -> Offer
     }
 }
 
+// The bundles that stay: a bundle that is handed out is gone.
+fn left_of(b: Bundles, some: u32) -> Bundles
+    requires { ⌜ waiting.Wf b ⌝ }
+    ensures { λ r. ⌜ r ≡ leftOf (eqb some 1) b ⌝ }
+{
+    if some != 1 {
+        return b;
+    }
+    bundles::pop_front(b)
+}
+
 // Refusals 1, 2 and 13 from the table and the key alone, or the place of the key's channel.
 fn spot_of(t: Table, k: Key) -> Spot
     ensures { λ r. ⌜ Spotted t k r ⌝ }
@@ -88,8 +100,8 @@ fn spot_of(t: Table, k: Key) -> Spot
     Spot { code: 0, at }
 }
 
-// The handles of the next bundle of the channel that the key names, written to the lent list from its front; a bundle that is handed out is
-// gone from its channel. The table leaves by one exit, since each further one would copy it.
+// The handles of the next bundle of the channel that the key names, written to the lent list from its front. The table leaves by one exit and
+// the channel is stored whether a bundle is gone or not: a further exit or a store under a test would each copy the table once more.
 pub fn next_bundle(t: Table, k: Key, lent: &mut [u32]) -> Popped
     ensures { λ r. ⌜ r ≡ nextOf t k (now (lent .entry)) ⌝ }
     ensures { λ r. ⌜ now (lent .exit) ≡ nextLent t k (now (lent .entry)) ⌝ }
@@ -107,18 +119,14 @@ pub fn next_bundle(t: Table, k: Key, lent: &mut [u32]) -> Popped
             let mut d = u.ons[at];
             let b = d.bundles;
             o = hand_out(b, lent);
-            if o.some == 1 {
-                d.bundles = bundles::pop_front(b);
-                u.ons[at] = d;
-            }
+            d.bundles = left_of(b, o.some);
+            u.ons[at] = d;
         } else {
             let mut d = u.offs[at];
             let b = d.bundles;
             o = hand_out(b, lent);
-            if o.some == 1 {
-                d.bundles = bundles::pop_front(b);
-                u.offs[at] = d;
-            }
+            d.bundles = left_of(b, o.some);
+            u.offs[at] = d;
         }
     }
     Popped {

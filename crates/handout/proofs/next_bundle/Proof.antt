@@ -1,5 +1,5 @@
 use borrow.Author.Needs.{needs}
-use Rattle.handout.proofs.Next.{answering, next-refused, lent-refused, on-at, on-lent, on-kept, on-gone, off-at, off-lent, off-kept, off-gone}
+use Rattle.handout.proofs.Next.{answering, next-refused, lent-refused, on-at, on-lent, on-stored, off-at, off-lent, off-stored}
 use Rattle.handout.proofs.next_bundle.Statement.{statement}
 use Rattle.handout.proofs.next_bundle.Tie as tie
 
@@ -17,12 +17,12 @@ element-copy-out-d c = search answering
 hand-out-requires : tie.Need-hand-out-requires
 hand-out-requires c κs = search answering
 
-pop-front-requires : tie.Need-pop-front-requires
-pop-front-requires c κs = search answering
+left-of-requires : tie.Need-left-of-requires
+left-of-requires c κs = search answering
 
 mul-d-2 : tie.Need-mul-d-2
 mul-d-2 c =
-    let e = c .before .before .before .before .before .before .before .before .before in
+    let e = c .before .before .before .before .before .before .before in
     let h = on-at _ _ _ (e .before .before .before .before .spot-of .ensures) (e .before .before .if1 .taken) (e .if2 .taken) in
     search needs
 
@@ -40,12 +40,12 @@ element-copy-out-d-2 c = search answering
 hand-out-requires-2 : tie.Need-hand-out-requires-2
 hand-out-requires-2 c κs = search answering
 
-pop-front-requires-2 : tie.Need-pop-front-requires-2
-pop-front-requires-2 c κs = search answering
+left-of-requires-2 : tie.Need-left-of-requires-2
+left-of-requires-2 c κs = search answering
 
 mul-d-4 : tie.Need-mul-d-4
 mul-d-4 c =
-    let e = c .before .before .before .before .before .before .before .before .before in
+    let e = c .before .before .before .before .before .before .before in
     let h = off-at _ _ _ (e .before .before .before .before .spot-of .ensures) (e .before .before .if1 .taken) (e .if2 .left) in
     search needs
 
@@ -56,28 +56,16 @@ same-length : tie.Need-same-length
 same-length c = search answering
 
 returns : tie.Need-returns
-returns c = (search on-gone, search on-lent)
+returns c = (search on-stored, search on-lent)
 
 same-length-2 : tie.Need-same-length-2
 same-length-2 c = search answering
 
 returns-2 : tie.Need-returns-2
-returns-2 c = (search on-kept, search on-lent)
-
-same-length-3 : tie.Need-same-length-3
-same-length-3 c = search answering
+returns-2 c = (search off-stored, search off-lent)
 
 returns-3 : tie.Need-returns-3
-returns-3 c = (search off-gone, search off-lent)
-
-same-length-4 : tie.Need-same-length-4
-same-length-4 c = search answering
-
-returns-4 : tie.Need-returns-4
-returns-4 c = (search off-kept, search off-lent)
-
-returns-5 : tie.Need-returns-5
-returns-5 c = (search next-refused, search lent-refused)
+returns-3 c = (search next-refused, search lent-refused)
 
 pub next-bundle-spec : {M : Type 1} → statement M
 next-bundle-spec =
@@ -87,21 +75,17 @@ next-bundle-spec =
     mul-d
     element-copy-out-d
     hand-out-requires
-    pop-front-requires
+    left-of-requires
     mul-d-2
     element-set-from-d
     mul-d-3
     element-copy-out-d-2
     hand-out-requires-2
-    pop-front-requires-2
+    left-of-requires-2
     mul-d-4
     element-set-from-d-2
     same-length
     returns
     same-length-2
     returns-2
-    same-length-3
-    returns-3
-    same-length-4
-    returns-4
-    returns-5)
+    returns-3)
