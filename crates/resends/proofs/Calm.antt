@@ -14,7 +14,7 @@ use Rattle.lists.proofs.Find.{keep-all, keep-none}
 use Rattle.lists.proofs.Tests.{allb-weaken}
 use Rattle.lists.proofs.Maps.{map-kept}
 use Rattle.packet.specs.declared.OutEntry.{OutEntry}
-use Rattle.model.specs.Rust.{young, due, mark, row}
+use Rattle.model.specs.Rust.{young, due, mark}
 use Rattle.out_list.specs.declared.OutList.{OutList}
 use Rattle.out_list.specs.Out as out
 use Rattle.out_list.proofs.Resends.{mark-no}
@@ -64,11 +64,12 @@ module _ (o : OutList) (t timeout giveUp : ℕ) (q : listCalm t timeout giveUp o
   all-kept : keepBy (young t giveUp) (out.abs o) ≡ out.abs o
   all-kept = keep-all (young t giveUp) (out.abs o) (allb-weaken (out.calm t timeout giveUp) (young t giveUp) is-young (out.abs o) q)
 
+  none-due : keepBy (due t timeout) (out.abs o) ≡ []
+  none-due = keep-none (due t timeout) (out.calm t timeout giveUp) not-due (out.abs o) q
+
   pub calm-rows : (a : ℕ) → listRows a t timeout giveUp o ≡ []
   unfolding listRows
-  calm-rows a =
-      ap (λ (es : List OutEntry). map (row a) (keepBy (due t timeout) es)) all-kept
-      ∙ ap (λ (es : List OutEntry). map (row a) es) (keep-none (due t timeout) (out.calm t timeout giveUp) not-due (out.abs o) q)
+  calm-rows a = rw (all-kept, none-due)
 
   pub calm-sent : out.Wf o → listSent t timeout giveUp o ≡ o
   unfolding listSent
