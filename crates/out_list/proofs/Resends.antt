@@ -2,7 +2,7 @@
 use mathlib.Core.Path.{_≡_, refl, sym, ap, _∙_}
 use mathlib.Core.List.{List, [], _∷_, _++_, map}
 use mathlib.Core.Bool.{Bool, true, false, not, cond, _&&_, _||_, and-true, and-false}
-use Prim.Native.Nat.{ℕ, zero, suc, _+_, _-_, _≤_, _<_}
+use Prim.Native.Nat.{ℕ, zero, suc, _+_, _*_, _-_, _≤_, _<_}
 use native.Mathlib.Omega.{arith}
 use native.Mathlib.Nat.{le-of-suc-le-suc, not-suc-le-zero}
 use borrow.Author.Needs.{needs}
@@ -18,12 +18,19 @@ use Rattle.lists.proofs.Positions.{drop-more}
 use Rattle.lists.proofs.Looking.{Testing, testing-start, testing-end, keep-yes, keep-no, Asking, asking-start, asking-hit, asking-step, asking-end}
 use Rattle.lists.proofs.Copies.{Mapping, mapping-start, mapping-step, mapping-end, Writing, writing-start, writing-step, writing-end}
 use Rattle.packet.specs.declared.OutEntry.{OutEntry}
+use Rattle.packet.specs.declared.Resend.{Resend}
 use Rattle.packet.specs.Data.{noEntry}
 use Rattle.model.specs.Rust.{young, due, mark}
 use Rattle.model.specs.Calls.{flat}
 use Rattle.out_list.specs.declared.OutList.{OutList}
 use Rattle.out_list.specs.Out.{abs, repr, Wf, dueRows, calm}
 use Rattle.out_list.proofs.Form.{wf-entries, wf-len, wf-length, wf-len-le, wf-le}
+
+-- two numbers for each row
+pub length-flat : (xs : List Resend) → length (flat xs) ≡ 2 * length xs
+unfolding flat
+length-flat [] = refl
+length-flat (x ∷ xs) = omega (arith, length-flat xs)
 
 -- ---- one entry
 

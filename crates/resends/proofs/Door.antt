@@ -27,8 +27,9 @@ use Rattle.table.proofs.Places.{few-offs, few-ons, off-wf-at, on-wf-at}
 use Rattle.calls.specs.declared.Resent.{Resent}
 use Rattle.calls.specs.Calls.{Outcome, tableReply, called, resentOf, resendsOf, resendsLent}
 use Rattle.calls.proofs.Called.{called-refused, called-granted, on-limit, on-index, off-limit, off-index}
+use Rattle.out_list.proofs.Resends.{length-flat}
 use Rattle.resends.specs.Resends.{offRows, onRows, offsSent, onsSent, OffsWf, OnsWf}
-use Rattle.resends.proofs.Rows.{flat-append, length-flat}
+use Rattle.resends.proofs.Rows.{flat-append}
 
 -- a table with its time, or its time and its channels new
 abbrev pub atTime : ℕ → Table → Table

@@ -11,13 +11,12 @@ use lib.ListN.{length, length-append, length-map, replicate, length-replicate}
 use Rattle.lists.specs.Find.{keepBy}
 use Rattle.lists.proofs.Find.{length-keep}
 use Rattle.packet.specs.declared.OutEntry.{OutEntry}
-use Rattle.packet.specs.declared.Resend.{Resend}
 use Rattle.model.specs.Acks.{ackSingle, ackSingles, ackCumulative, insertOut}
 use Rattle.model.specs.Rust.{young, due, mark, row}
-use Rattle.model.specs.Calls.{flat}
 use Rattle.out_list.specs.declared.OutList.{OutList}
 use Rattle.out_list.specs.Out.{abs, repr, Wf, dueRows}
 use Rattle.out_list.proofs.Form.{wf-len, wf-le, wf-of}
+use Rattle.out_list.proofs.Resends.{length-flat}
 use Rattle.out_list.proofs.Acks.{length-ackSingles, length-ackCumulative}
 
 pub new-kept : (r : OutList) → r ≡ repr [] → Wf r
@@ -25,12 +24,6 @@ new-kept r e = wf-of r [] e (omega arith)
 
 pub room-is : (b : Bool) (n : ℕ) → b ≡ leb n 32 → b ≡ true → n ≤ 32
 room-is b n p q = leb-true n 32 (sym p ∙ q)
-
--- two places for each row
-rows-length : (xs : List Resend) → length (flat xs) ≡ length xs + length xs
-unfolding flat
-rows-length [] = omega arith
-rows-length (x ∷ xs) = omega (arith, rows-length xs)
 
 module _ (o r : OutList) (w : Wf o) where
   pub send-kept : (e : OutEntry) → o .len < 32 → r ≡ repr (abs o ++ e ∷ []) → Wf r
@@ -58,7 +51,7 @@ module _ (o r : OutList) (w : Wf o) where
 module _ (o : OutList) (address t timeout : ℕ) (w : Wf o) where
   pub rows-few : length (dueRows address t timeout (abs o)) ≤ 64
   rows-few =
-      omega (arith, rows-length (map (row address) (keepBy (due t timeout) (abs o))), length-map (keepBy (due t timeout) (abs o)) (row address), length-keep (due t timeout) (abs o), wf-le o w)
+      omega (arith, length-flat (map (row address) (keepBy (due t timeout) (abs o))), length-map (keepBy (due t timeout) (abs o)) (row address), length-keep (due t timeout) (abs o), wf-le o w)
 
   pub rows-fit : (l : List ℕ) → 64 ≡ length l → 0 + length (dueRows address t timeout (abs o)) ≤ length l
   rows-fit l h = omega (arith, rows-few)
