@@ -389,6 +389,47 @@ fn stack() {
     most.iter().for_each(|(name, bytes)| println!("  {name:<24} {bytes:>8}"));
 }
 
+/// A call that changes the table, on a copy of one table each time.
+fn fresh(of: &Table, own: &mut Own, call: &mut dyn FnMut(&mut Table)) -> (f64, f64) {
+    let mut t = lib::boxed(false);
+    let (mut all, mut of_own) = (Vec::new(), Vec::new());
+    for _ in 0..TIMES {
+        let before = own.both();
+        let mut took = Vec::new();
+        for _ in 0..200 {
+            // SAFETY: two tables apart from each other, of integers alone.
+            unsafe { (&mut *t as *mut Table).copy_from_nonoverlapping(of, 1) };
+            let began = std::time::Instant::now();
+            call(black_box(&mut t));
+            took.push(began.elapsed().as_nanos() as f64);
+        }
+        let took = median(took);
+        of_own.push(2.0 * took / (before + own.both()));
+        all.push(took);
+    }
+    (median(all), median(of_own))
+}
+
+/// Calls that do what they can on a full table, but for the one channel that they use.
+fn working(of: &Table, own: &mut Own) -> Vec<(&'static str, f64, f64)> {
+    let mut lent = [0; lib::RESENT_NUMBERS];
+    let record = |on, reliable, number| Record { on, reliable, number, handle: number, ..Record::ZERO };
+    let eight = |on, reliable| -> Vec<Record> { (1..9).map(|number| record(on, reliable, number)).collect() };
+    let (ordered, loose) = (eight(1, 1), eight(1, 0));
+    let mut rows = Vec::new();
+    let mut of_call = |name, call: &mut dyn FnMut(&mut Table)| {
+        let (ns, of_own) = fresh(of, own, call);
+        rows.push((name, ns, of_own));
+    };
+    of_call("accept of one, reliable", &mut |t| assert_eq!(lib::accept(t, 1, 7, &ordered[..1]).code, 0));
+    of_call("accept of one, not reliable", &mut |t| assert_eq!(lib::accept(t, 1, 7, &loose[..1]).code, 0));
+    of_call("accept of eight, reliable", &mut |t| assert_eq!(lib::accept(t, 1, 7, &ordered).code, 0));
+    of_call("accept of eight, not reliable", &mut |t| assert_eq!(lib::accept(t, 1, 7, &loose).code, 0));
+    of_call("take_resends, all 352 due", &mut |t| assert_eq!(lib::take_resends(t, 9, 1, 99, &mut lent), Ok(352)));
+    of_call("take_resends, all given up", &mut |t| assert_eq!(lib::take_resends(t, 9, 1, 1, &mut lent), Ok(0)));
+    rows
+}
+
 /// The table's words, read once.
 #[inline(never)]
 fn read(t: &Table) -> u64 {
@@ -431,6 +472,7 @@ fn main() -> ExitCode {
     let test =
         |t: &Table| median((0..TIMES).map(|_| time(n, || (0..n).for_each(|_| assert!(lib::well_formed(black_box(t)))))).collect());
     let (empty, fullest) = (test(&tables[0]), test(&tables[1]));
+    let works = working(&tables[1], &mut own);
     let calls = alone(&mut tables[1], &mut own);
     let reading = median((0..TIMES).map(|_| own.reading()).collect());
     let copying = median((0..TIMES).map(|_| own.copying()).collect());
@@ -453,7 +495,11 @@ fn main() -> ExitCode {
     for (name, ns, of_own) in &calls {
         println!("  {name:<40} {ns:>8.0} ns {of_own:>8.2} of own");
     }
-    let worst = rows.iter().map(|r| r.of_own).chain(calls.iter().map(|c| c.2)).fold(0.0, f64::max);
+    println!("one call alone on a copy of a full table, which it changes (wall-clock time):");
+    for (name, ns, of_own) in &works {
+        println!("  {name:<40} {ns:>8.0} ns {of_own:>8.2} of own");
+    }
+    let worst = rows.iter().map(|r| r.of_own).chain(calls.iter().chain(&works).map(|c| c.2)).fold(0.0, f64::max);
     println!("a checked call costs {worst:.2} times that at most; the goal is 3");
     ExitCode::SUCCESS
 }
