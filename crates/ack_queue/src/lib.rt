@@ -12,6 +12,7 @@ ghost use Rattle.seq.specs.Num as Num;
 ghost use Rattle.model.specs.Acks.{is, notBefore, ackInCumulative, ackInSingles, takeWritten};
 ghost use Rattle.ack_queue.specs.Queue.{abs, repr, Wf, takenOf, acksGood};
 
+// Rust: in_reliable_packets of OffChannelData, the numbers to acknowledge.
 #[repr(C)]
 pub struct AckQueue {
     pub len: u32,

@@ -9,7 +9,7 @@ ghost use Rattle.lists.specs.Find.{has, written, sum};
 ghost use Rattle.model.specs.Rust.{holdsBundle};
 ghost use Rattle.bundles.specs.Bundles as Spec;
 
-// 16 bundles of 64 handles in all: how many there are, each one's length, and the handles one bundle after the other.
+// 16 bundles of 64 handles in all: how many there are, each one's length, and the handles one bundle after the other (Rust: in_bundles).
 #[repr(C)]
 pub struct Bundles {
     pub len: u32,

@@ -13,7 +13,7 @@ ghost use Rattle.model.specs.State as model;
 ghost use Rattle.model.specs.Rust.{holdsOff, holdsOn};
 ghost use Rattle.channel.specs.Channel.{absOff, reprOff, absOn, reprOn, WfOff, WfOn, goodOff, goodOn, idleOff, idleOn};
 
-// Rust: OffChannel.
+// Rust: OffChannel, with its OffChannelData.
 #[repr(C)]
 pub struct OffChannel {
     pub address: u32,
@@ -23,7 +23,8 @@ pub struct OffChannel {
     pub bundles: Bundles,
 }
 
-// Rust: OnChannel. Without an index, index and version are 0.
+// Rust: OnChannel, with its OffChannelData and OnChannelData; expected is in_reliable_expected_seq, source is seq_alloc. Without an index,
+// index and version are 0.
 #[repr(C)]
 pub struct OnChannel {
     pub address: u32,

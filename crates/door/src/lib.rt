@@ -264,6 +264,7 @@ pub extern "C" fn relay_well_formed(t: &Table) -> u32
     n
 }
 
+// 0 or the last record's refusal; the count of records not refused and that record's channel are written to the answer.
 #[no_mangle]
 pub extern "C" fn relay_accept(
     t: &mut Table,
@@ -284,6 +285,7 @@ pub extern "C" fn relay_accept(
     s.code
 }
 
+// 0 or the refusal; the channel is written to the answer.
 #[no_mangle]
 pub extern "C" fn relay_accept_out(
     t: &mut Table,
@@ -304,6 +306,7 @@ pub extern "C" fn relay_accept_out(
     s.code
 }
 
+// 0 or the refusal; the channel, found or made, is written to the answer.
 #[no_mangle]
 pub extern "C" fn relay_channel(t: &mut Table, k: &Key, answer: &mut View) -> u32
     ensures { λ r. ⌜ (now (t .exit) ≡ channelOf (now (t .entry)) (now (k .entry)) .table)
@@ -332,6 +335,7 @@ pub extern "C" fn relay_next_bundle(t: &mut Table, k: &Key, lent: &mut [u32]) ->
     s.number
 }
 
+// 0 or the refusal; what was prepared is written to the answer.
 #[no_mangle]
 pub extern "C" fn relay_prepare(
     t: &mut Table,
@@ -354,6 +358,7 @@ pub extern "C" fn relay_prepare(
     s.code
 }
 
+// 0 or the refusal.
 #[no_mangle]
 pub extern "C" fn relay_acks_written(t: &mut Table, k: &Key, n: &Names) -> u32
     ensures { λ r. ⌜ (now (t .exit) ≡ wroteAcks (now (t .entry)) (now (k .entry)) (now (n .entry)) .table) × (r ≡ wroteAcks (now (t .entry)) (now (k .entry)) (now (n .entry)) .code) ⌝ }
@@ -405,6 +410,7 @@ pub extern "C" fn relay_last_accepted_prefix(t: &Table) -> u64
     n
 }
 
+// 0 or the refusal, 1 alone.
 #[no_mangle]
 pub extern "C" fn relay_reset_prefix_offset(t: &mut Table) -> u32
     ensures { λ r. ⌜ (now (t .exit) ≡ resetOf (now (t .entry)) .table) × (r ≡ resetOf (now (t .entry)) .code) ⌝ }
@@ -415,6 +421,7 @@ pub extern "C" fn relay_reset_prefix_offset(t: &mut Table) -> u32
     s.code
 }
 
+// 0 or the refusal, 1 alone (Rust: transfer_prefix_offset_from_last_received).
 #[no_mangle]
 pub extern "C" fn relay_transfer_prefix_offset(t: &mut Table) -> u32
     ensures { λ r. ⌜ (now (t .exit) ≡ transferOf (now (t .entry)) .table) × (r ≡ transferOf (now (t .entry)) .code) ⌝ }

@@ -17,6 +17,7 @@ ghost use Rattle.bundles.specs.Bundles as B;
 ghost use Rattle.fragments.specs.Groups as Spec;
 
 // The fragments of one range, by its first number. A filled place has mark 1 and its handle, an empty one 0 and 0; len places are in use.
+// Rust: Fragments; updated is last_update, count is seq_count, and a mark with its handle is an element of fragments.
 #[repr(C)]
 pub struct Fragments {
     pub updated: u64,
@@ -27,7 +28,7 @@ pub struct Fragments {
     pub handles: [u32; 32],
 }
 
-// Up to 4 groups, in order of creation; what is past them is zero.
+// Up to 4 groups, in order of creation; what is past them is zero (Rust: in_fragments).
 #[repr(C)]
 pub struct Groups {
     pub len: u32,
@@ -81,7 +82,7 @@ pub fn set(g: Fragments, i: u32, handle: u32, time: u64) -> Fragments
     r
 }
 
-// "time - last update > 10,000"
+// "time - last update > 10,000" (Rust: FRAGMENT_TIMEOUT, 10 s).
 pub fn is_old(g: Fragments, time: u64) -> bool
     ensures { λ r. ⌜ r ≡ stale time (Spec.absG g) ⌝ }
 {

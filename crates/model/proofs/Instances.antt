@@ -1,4 +1,4 @@
--- Closed instances of the port's runs: the scope's own script, what it calls easy to get wrong, and calls that two refusals apply to.
+-- Closed instances of the port's runs: 01's own script, what it calls easy to get wrong, and calls that two refusals apply to.
 -- Assumes nothing.
 use mathlib.Core.Path.{_≡_, refl}
 use mathlib.Core.Bool.{true, false}

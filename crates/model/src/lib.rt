@@ -1,4 +1,4 @@
-// Document 01 as definitions stands in specs/; this crate has no code of its own.
+// 01 as definitions stands in specs/; this crate has no code of its own.
 ghost use mathlib.Core.Path.{_≡_};
 
 pub fn zero() -> u32

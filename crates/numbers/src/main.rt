@@ -1,4 +1,4 @@
-// What the sequence numbers do at their edges: the rows of the scope's "Proved table" that speak of
+// What the sequence numbers do at their edges: the rows of 01's "Proved table" that speak of
 // numbers, computed by the crate `seq` and written one to a line.
 use libc::STDOUT_FILENO;
 use seq::Order;

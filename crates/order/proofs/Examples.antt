@@ -93,7 +93,7 @@ is-near : Near history
 unfolding missing copy above climb history
 is-near = ((((((tt, lit< tt, lit< tt), lit< tt, lit< tt), lit< tt, lit< tt), lit< tt, lit< tt), lit< tt, lit< tt))
 
--- ---- document 01's printed driver run
+-- ---- 01's printed driver run
 
 -- `on rel seq N pkt H`
 abbrev ordered : ℕ → ℕ → Record

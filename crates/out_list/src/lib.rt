@@ -16,6 +16,7 @@ ghost use Rattle.model.specs.Acks.{isGreater, hasNumber, ackSingle, ackSingles,
 ghost use Rattle.model.specs.Rust as Rust;
 ghost use Rattle.out_list.specs.Out.{abs, repr, Wf, placeOf, dueRows, calm, wordsGood, noWords, timesGood, noTimes, outGood};
 
+// Rust: out_reliable_packets.
 #[repr(C)]
 pub struct OutList {
     pub len: u32,

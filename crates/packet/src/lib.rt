@@ -38,7 +38,8 @@ pub struct Packet {
     pub last: u32,
 }
 
-// A reliable packet sent and not yet acknowledged (Rust: OutReliablePacket). One forwarded out has no handle: held is 0, and the handle too.
+// A reliable packet sent and not yet acknowledged (Rust: OutReliablePacket; number is sequence_num, held and handle are its packet).
+// One forwarded out has no handle: held is 0, and the handle too.
 #[repr(C)]
 pub struct OutEntry {
     pub time: u64,

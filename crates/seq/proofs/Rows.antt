@@ -1,4 +1,4 @@
--- The rows of the scope's "Proved table" that speak of numbers. Assumes nothing.
+-- The rows of 01's "Proved table" that speak of numbers. Assumes nothing.
 use mathlib.Core.Path.{_≡_, refl}
 use Rattle.seq.specs.declared.Order.the-variants.{Greater}
 use Rattle.seq.specs.Num.{add, sub, cmp, observeS}

@@ -1,4 +1,4 @@
--- Sequence numbers: the words of the scope document, "Numbers". Every definition takes every number, legal or not.
+-- Sequence numbers: the words of 01, "Numbers". Every definition takes every number, legal or not.
 -- Assumes nothing.
 use mathlib.Core.Bool.{Bool, true, false}
 use Prim.Native.Nat.{ℕ, _+_, _-_, _%_}

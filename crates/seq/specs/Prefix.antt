@@ -1,4 +1,4 @@
--- The prefix sum: the words of the scope document, "Prefix", in its letters a, b, c, y.
+-- The prefix sum: the words of 01, "Prefix", in its letters a, b, c, y.
 -- Assumes nothing.
 use Prim.Native.Nat.{ℕ, _+_, _*_, _/_, _%_, _^_}
 use lib.Bits.{bitXor}

@@ -141,7 +141,7 @@ impl SeqAlloc {
     }
 }
 
-// The sum that the Rust's `update_prefix` writes. The letters are the scope's and the Rust's.
+// The sum that the Rust's `update_prefix` writes. The letters are 01's and the Rust's.
 pub fn prefix_sum(offset: u32, p0: u32, p1: u32) -> u32
     ensures { λ r. ⌜ r ≡ prefix offset p0 p1 ⌝ }
 {

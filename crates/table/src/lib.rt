@@ -16,7 +16,8 @@ ghost use Rattle.channel.specs.Channel.{goodOff, goodOn};
 ghost use Rattle.table.specs.Keys.{isKey, isAddress, sameKey, offKey, onKey, keysOf};
 ghost use Rattle.table.specs.Table.{repr, spareOff, spareOn, offsGood, onsGood, wfb};
 
-// Rust: Protocol and ProtocolShared, with the latest time.
+// Rust: Protocol and ProtocolShared, with the latest time. forwarding is follows_accepted, prefix is last_accepted_prefix, offset is
+// prefix_offset, source is off_seq_alloc.
 #[repr(C)]
 pub struct Table {
     pub latest: u64,

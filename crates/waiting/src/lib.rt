@@ -18,6 +18,7 @@ ghost use Rattle.model.specs.Rust.{holdsPacket};
 ghost use Rattle.model.specs.Wellformed.{packetGood, rising, consecutive};
 ghost use Rattle.waiting.specs.Waiting.{Wf, abs, repr, isNone, kept, bufferGood, queueGood};
 
+// Rust: in_reliable_packets of OnChannelData, the buffer, and in_reliable_contiguous_packets, the queue.
 #[repr(C)]
 pub struct Waiting {
     pub len: u32,
