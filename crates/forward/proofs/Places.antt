@@ -2,14 +2,13 @@
 -- channel of that key stored there. Assumes nothing.
 use mathlib.Core.Path.{_≡_, refl, ap, sym, subst, _∙_}
 use mathlib.Core.Bool.{Bool, true, false, cond}
-use mathlib.Core.List.{List, map}
+use mathlib.Core.List.{map}
 use Prim.Native.Nat.{ℕ, _+_, _≤_, _<_}
 use native.Mathlib.Omega.{arith}
 use borrow.Author.Tests.{ltb-true, ltb-false, le-ltb}
 use lib.Dec.{ltb}
-use lib.ListN.{length, getD, length-map, List·getD-eq-default}
-use Rattle.lists.specs.Pad.{pad}
-use Rattle.lists.proofs.Pad.{length-pad, getD-pad, getD-default}
+use lib.ListN.{length, getD, length-map}
+use Rattle.lists.proofs.Pad.{length-pad, getD-spare}
 use Rattle.lists.proofs.Find.{find-absent}
 use Rattle.lists.proofs.Slot.{slot-room, room-of}
 use Rattle.model.specs.State as model
@@ -120,23 +119,19 @@ module _ (s : model.State) (t : Table) (form : t ≡ repr s) (fits : Fits (s .pr
 
 -- ---- an unused place is all zero, so a new channel is that place with its key
 
--- what is read past the list that the array is filled from
-unused : {A : Type 0} (n i : ℕ) (o z : A) (l : List A) → length l ≤ i → i < n → getD (pad n o l) i z ≡ o
-unused n i o z l h k = getD-default (pad n o l) i z o (subst (λ (m : ℕ). i < m) (sym (length-pad n o l)) k) ∙ getD-pad n o l i k ∙ List·getD-eq-default l o h
-
 on-unused : (t : Table) → Wf t → (at : ℕ) (z : OnChannel) → t .oncount ≤ at → at < 8 → getD (t .ons) at z ≡ zeroOn
 unfolding repr
 on-unused t w at z h k =
     let l = map reprOn (abs t .protocol .ons) in
     let n : t .oncount ≡ length (abs t .protocol .ons) = ap (λ (u : Table). u .oncount) (w .form) in
-    ap (λ (u : Table). getD (u .ons) at z) (w .form) ∙ unused 8 at zeroOn z l (subst (λ (m : ℕ). m ≤ at) (n ∙ sym (length-map (abs t .protocol .ons) reprOn)) h) k
+    ap (λ (u : Table). getD (u .ons) at z) (w .form) ∙ getD-spare 8 at zeroOn z l (subst (λ (m : ℕ). m ≤ at) (n ∙ sym (length-map (abs t .protocol .ons) reprOn)) h) k
 
 off-unused : (t : Table) → Wf t → (at : ℕ) (z : OffChannel) → t .offcount ≤ at → at < 4 → getD (t .offs) at z ≡ zeroOff
 unfolding repr
 off-unused t w at z h k =
     let l = map reprOff (abs t .protocol .offs) in
     let n : t .offcount ≡ length (abs t .protocol .offs) = ap (λ (u : Table). u .offcount) (w .form) in
-    ap (λ (u : Table). getD (u .offs) at z) (w .form) ∙ unused 4 at zeroOff z l (subst (λ (m : ℕ). m ≤ at) (n ∙ sym (length-map (abs t .protocol .offs) reprOff)) h) k
+    ap (λ (u : Table). getD (u .offs) at z) (w .form) ∙ getD-spare 4 at zeroOff z l (subst (λ (m : ℕ). m ≤ at) (n ∙ sym (length-map (abs t .protocol .offs) reprOff)) h) k
 
 pub on-fresh : (t : Table) → Wf t → (a i v at : ℕ) (z d : OnChannel) → at < 8 → d ≡ cond (ltb at (t .oncount)) (getD (t .ons) at z) (onKeyed a i v (getD (t .ons) at z))
     → d ≡ cond (ltb at (t .oncount)) (getD (t .ons) at z) (reprOn (model.newOn a i v))

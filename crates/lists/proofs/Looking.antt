@@ -142,59 +142,6 @@ module _ {A : Type 0} where
   pub testing-end : (f g : A → Bool) (N n : ℕ) (l : List A) (good : Bool) (i : ℕ) → Testing f g N n l good i → N ≤ i → good ≡ allb f (take n l) && allb g (drop n l)
   testing-end f g N n l good i t h = t .so ∙ ap (tested f g n) (take-all i l (omega arith)) ∙ tested-parts f g n l
 
-  -- ---- the same with a way out at the first that fails
-
-  both-in : (f g : A → Bool) (z : A) (l : List A) (n i : ℕ) → i < length l → i < n → allb f (take (n - i) (drop i l)) && allb g (drop (n - i) (drop i l)) ≡ f (getD l i z) && (allb f (take (n - (i + 1)) (drop (i + 1) l)) && allb g (drop (n - (i + 1)) (drop (i + 1) l)))
-  unfolding allb
-  both-in f g z l n i h m =
-      let e : n - i ≡ suc (n - (i + 1)) = omega arith in
-      rw (drop-here l i z h, e) (and-assoc (f (getD l i z)) (allb f (take (n - (i + 1)) (drop (i + 1) l))) (allb g (drop (n - (i + 1)) (drop (i + 1) l))))
-
-  both-out : (f g : A → Bool) (z : A) (l : List A) (n i : ℕ) → i < length l → n ≤ i → allb f (take (n - i) (drop i l)) && allb g (drop (n - i) (drop i l)) ≡ g (getD l i z) && (allb f (take (n - (i + 1)) (drop (i + 1) l)) && allb g (drop (n - (i + 1)) (drop (i + 1) l)))
-  unfolding allb
-  both-out f g z l n i h m =
-      let e : n - i ≡ 0 = omega arith in
-      let d : n - (i + 1) ≡ 0 = omega arith in
-      rw (drop-here l i z h, e, d)
-
-  both-turn : (f g : A → Bool) (z : A) (l : List A) (n i : ℕ) → i < length l → allb f (take (n - i) (drop i l)) && allb g (drop (n - i) (drop i l)) ≡ cond (ltb i n) (f (getD l i z)) (g (getD l i z)) && (allb f (take (n - (i + 1)) (drop (i + 1) l)) && allb g (drop (n - (i + 1)) (drop (i + 1) l)))
-  both-turn f g z l n i h = at (ltb i n) refl
-    where
-      at : (t : Bool) → ltb i n ≡ t → allb f (take (n - i) (drop i l)) && allb g (drop (n - i) (drop i l)) ≡ cond t (f (getD l i z)) (g (getD l i z)) && (allb f (take (n - (i + 1)) (drop (i + 1) l)) && allb g (drop (n - (i + 1)) (drop (i + 1) l)))
-      at true p = both-in f g z l n i h (ltb-true i n p)
-      at false p = both-out f g z l n i h (ltb-false i n p)
-
-  pub record Both (f g : A → Bool) (l : List A) (N n i : ℕ) : Type 0 where
-    pub below : i ≤ N
-    pub size : length l ≡ N
-    pub rest : allb f (take (n - i) (drop i l)) && allb g (drop (n - i) (drop i l)) ≡ allb f (take n l) && allb g (drop n l)
-
-  pub both-start : (f g : A → Bool) (l : List A) (N n : ℕ) → length l ≡ N → Both f g l N n 0
-  both-start f g l N n h = record { below = zero-le; size = h; rest = ap (λ (k : ℕ). allb f (take k l) && allb g (drop k l)) (sub-zero n) }
-
-  pub both-hit : (f g : A → Bool) (z : A) (l : List A) (N n i : ℕ) (b : Bool) → Both f g l N n i → i < N → b ≡ cond (ltb i n) (f (getD l i z)) (g (getD l i z)) → b ≡ false → false ≡ allb f (take n l) && allb g (drop n l)
-  both-hit f g z l N n i b c h p q =
-      let e : cond (ltb i n) (f (getD l i z)) (g (getD l i z)) ≡ false = sym p ∙ q in
-      ap (λ (t : Bool). t && (allb f (take (n - (i + 1)) (drop (i + 1) l)) && allb g (drop (n - (i + 1)) (drop (i + 1) l)))) (sym e) ∙ sym (both-turn f g z l n i (omega (arith, c .size))) ∙ c .rest
-
-  pub both-step : (f g : A → Bool) (z : A) (l : List A) (N n i : ℕ) (b : Bool) → Both f g l N n i → i < N → b ≡ cond (ltb i n) (f (getD l i z)) (g (getD l i z)) → b ≡ true → Both f g l N n (i + 1)
-  both-step f g z l N n i b c h p q =
-      let e : cond (ltb i n) (f (getD l i z)) (g (getD l i z)) ≡ true = sym p ∙ q in
-      record {
-        below = omega arith;
-        size = c .size;
-        rest =
-            ap (λ (t : Bool). t && (allb f (take (n - (i + 1)) (drop (i + 1) l)) && allb g (drop (n - (i + 1)) (drop (i + 1) l)))) (sym e) ∙ sym (both-turn f g z l n i (omega (arith, c .size))) ∙ c .rest;
-      }
-
-  pub both-end : (f g : A → Bool) (l : List A) (N n i : ℕ) → Both f g l N n i → N ≤ i → true ≡ allb f (take n l) && allb g (drop n l)
-  unfolding allb
-  both-end f g l N n i c h =
-      let e : drop i l ≡ [] = drop-of-length-le l {i = i} (omega (arith, c .size)) in
-      let t : take (n - i) (drop i l) ≡ [] = ap (λ (r : List A). take (n - i) r) e ∙ take-nil (n - i) in
-      let d : drop (n - i) (drop i l) ≡ [] = ap (λ (r : List A). drop (n - i) r) e ∙ drop-nil (n - i) in
-      sym (λ k. allb f (t k) && allb g (d k)) ∙ c .rest
-
   -- ---- a loop over all places whose test looks at those from n on
 
   past-in : (f : A → Bool) (z : A) (l : List A) (n i : ℕ) (good : Bool) → i < length l → i < n → good && (ltb i n || f (getD l i z)) && allb f (drop (n - (i + 1)) (drop (i + 1) l)) ≡ good && allb f (drop (n - i) (drop i l))

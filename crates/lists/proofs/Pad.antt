@@ -1,5 +1,5 @@
 -- Laws of `pad`, `removeAt`, `insertAt`, and of an array that is rewritten place by place. Any element type. Assumes nothing.
-use mathlib.Core.Path.{_≡_, refl, sym, ap, _∙_}
+use mathlib.Core.Path.{_≡_, refl, sym, ap, subst, _∙_}
 use mathlib.Core.List.{List, [], _∷_, _++_, map, append-nil}
 use Prim.Native.Nat.{ℕ, zero, suc, _+_, _-_, _≤_, _<_, zero-le, suc-le-suc}
 use mathlib.Core.Bool.{Bool, true, false, _&&_}
@@ -44,6 +44,10 @@ module _ {A : Type 0} where
   getD-pad (suc n) z [] (suc i) h = getD-pad n z [] i (le-of-suc-le-suc h)
   getD-pad (suc n) z (x ∷ xs) zero h = refl
   getD-pad (suc n) z (x ∷ xs) (suc i) h = getD-pad n z xs i (le-of-suc-le-suc h)
+
+  -- what is read past the list that the array is filled from
+  pub getD-spare : (n i : ℕ) (o z : A) (l : List A) → length l ≤ i → i < n → getD (pad n o l) i z ≡ o
+  getD-spare n i o z l h k = getD-default (pad n o l) i z o (subst (λ (m : ℕ). i < m) (sym (length-pad n o l)) k) ∙ getD-pad n o l i k ∙ List·getD-eq-default l o h
 
   -- the same at every index, where the list fits
   pub getD-padded : (n : ℕ) (z : A) (xs : List A) (i : ℕ) → length xs ≤ n → getD (pad n z xs) i z ≡ getD xs i z
