@@ -1,14 +1,12 @@
--- One number: where it stands, whether it does, and the queue without it. Assumes nothing.
+-- One number: where it stands, and the queue without it. Assumes nothing.
 use mathlib.Core.Path.{_≡_, refl, sym, ap, _∙_}
 use mathlib.Core.List.{List, []}
 use mathlib.Core.Bool.{true, false, cond}
 use mathlib.Core.Option.{Option, none, some}
 use Prim.Native.Nat.{ℕ, _+_, _≤_, _<_}
 use native.Mathlib.Omega.{arith}
-use native.Mathlib.Decide.{decLt}
 use borrow.Author.Needs.{needs}
-use borrow.Author.Tests.{eq-eqb, ne-eqb, lt-ltb, le-ltb}
-use lib.Dec.{ltb}
+use borrow.Author.Tests.{eq-eqb, ne-eqb}
 use lib.ListN.{length, getD, set, take, drop, length-take, drop-of-length-le}
 use Rattle.lists.specs.Pad.{removeAt}
 use Rattle.lists.specs.Find.{has, removeFirst, slotOf}
@@ -37,18 +35,7 @@ module _ (number n : ℕ) (l : List ℕ) (i : ℕ) (s : Finding (is number) 64 n
 
 pub ruleset finding = (find-start, find-hit, find-miss, finding-end, needs)
 
--- ---- has_number
-
-pub has-done : (q : AckQueue) (number at : ℕ) → Wf q → at ≡ slotOf (is number) (abs q) → ltb at (q .len) ≡ has (is number) (abs q)
-has-done q number at w e = go (decLt at (q .len))
-  where
-    go : Dec (at < q .len) → ltb at (q .len) ≡ has (is number) (abs q)
-    go (yes p) = lt-ltb at (q .len) p ∙ sym (has-of-slot (is number) (abs q) (omega (arith, wf-len q w)))
-    go (no p) = le-ltb at (q .len) (omega arith) ∙ sym (absent-of-slot (is number) (abs q) (omega (arith, wf-len q w)))
-
-pub ruleset having = (has-done, needs)
-
--- ---- remove_at, remove_written
+-- ---- remove_at
 
 pub remove-out : (q : AckQueue) (i : ℕ) → Wf q → q .len ≤ i → q ≡ repr (removeAt i (abs q))
 remove-out q i w h = cc (w, removeAt-out i (abs q) (omega (arith, wf-len q w)))
@@ -63,10 +50,9 @@ remove-done xs i n l j s h =
 
 pub ruleset removing = (remove-out, remove-start, shifting-step, remove-done, needs)
 
-pub first-done : (q r : AckQueue) (number i : ℕ) → i ≡ slotOf (is number) (abs q) → r ≡ repr (removeAt i (abs q)) → r ≡ repr (removeFirst (is number) (abs q))
+-- a number that was written leaves the queue at its earliest place
+first-done : (q r : AckQueue) (number i : ℕ) → i ≡ slotOf (is number) (abs q) → r ≡ repr (removeAt i (abs q)) → r ≡ repr (removeFirst (is number) (abs q))
 first-done q r number i p e = e ∙ ap (λ (k : ℕ). repr (removeAt k (abs q))) p ∙ ap repr (remove-slot (is number) (abs q))
-
-pub ruleset removing-first = (first-done, needs)
 
 -- ---- take_written: the names left, on the queue as it is, answer what all of them do
 

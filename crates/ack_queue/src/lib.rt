@@ -68,13 +68,6 @@ fn position(q: AckQueue, number: u32) -> usize
     i
 }
 
-pub fn has_number(q: AckQueue, number: u32) -> bool
-    requires { ⌜ Wf q ⌝ }
-    ensures { λ r. ⌜ r ≡ Find.has (is number) (abs q) ⌝ }
-{
-    position(q, number) < (q.len as usize)
-}
-
 // q without its element i, or q where it has none.
 fn remove_at(q: AckQueue, i: usize) -> AckQueue
     requires { ⌜ Wf q ⌝ }
@@ -94,15 +87,6 @@ fn remove_at(q: AckQueue, i: usize) -> AckQueue
     r.numbers[j] = 0;
     r.len = j as u32;
     r
-}
-
-// A number that was written leaves the queue at its earliest place; the others keep their order.
-pub fn remove_written(q: AckQueue, number: u32) -> AckQueue
-    requires { ⌜ Wf q ⌝ }
-    ensures { λ r. ⌜ r ≡ repr (Find.removeFirst (is number) (abs q)) ⌝ }
-{
-    let i = position(q, number);
-    remove_at(q, i)
 }
 
 // "named numbers leave the ack queue, each at its earliest place; if one is lacking, refusal 2"

@@ -10,7 +10,7 @@ use borrow.Author.Tests.{not-true}
 use Rattle.lists.proofs.Pad.{and-left, and-right}
 use Rattle.packet.specs.declared.Record.{Record}
 use Rattle.packet.specs.declared.Key.{Key}
-use Rattle.packet.specs.Data.{isSet, isFlag, indexOf, keyIndex, wellMade, keyMade}
+use Rattle.packet.specs.Data.{isSet, indexOf, keyIndex, wellMade, keyMade}
 use Rattle.model.specs.State.{Protocol, State, newProtocol, new, withTime}
 use Rattle.model.specs.Acks.{takeWritten}
 use Rattle.model.specs.Record.{Outcome, granted, rejected, farFragment, bareRun}
@@ -18,8 +18,8 @@ use Rattle.model.specs.Room.{fits}
 use Rattle.model.specs.Rust as rust
 use Rattle.model.specs.Calls.{Call, accept, acceptOut, channel, nextBundle, prepare, acksWritten, takeResends, holds, lastAcceptedPrefix, resetPrefixOffset, transferPrefixOffset, refused, found, bundle, prepared, resends, flat, lent}
 use Rattle.model.specs.Port as port
-use Rattle.model.specs.Port.{Result, takes, refuses, recordStages, outStages, recordStep, play, deliveryMade, onTime, reply}
-use Rattle.model.specs.History.{run, Rust, answers, RustRecord, gives, stops, rustRecordOf, RustPlayed, played, broken, aheadRust, thenRust, rustPlay, rustDelivery, rustOut, rustNext, rustWrote, rustReply, rustRun, addedResult, addedAnswer, anyAdded, recordsOf, panicsNot, inDomain, allInDomain}
+use Rattle.model.specs.Port.{Result, takes, refuses, recordStages, outStages, recordStep, play, deliveryMade, asked, onTime, reply}
+use Rattle.model.specs.History.{run, Rust, answers, RustRecord, gives, stops, rustRecordOf, RustPlayed, played, broken, aheadRust, thenRust, rustPlay, rustDelivery, rustOut, rustNext, rustWrote, rustReply, rustRun, addedResult, addedAnswer, anyAdded, resultsOf, panicsNot, inDomain, allInDomain}
 use Rattle.agreement.specs.Demand2.{goesOn, rustStep, recordInDomain, recordsInside, inside, rustLent, Demand2}
 use Rattle.agreement.proofs.Channels.{made-here}
 use Rattle.agreement.proofs.Rejections.{Leaves, ownRecord, ownOut, record-outcome, out-outcome}
@@ -222,23 +222,23 @@ resend-agrees t timeout giveUp s false room n = absurd (true≢false n)
 module _ (e : Call) (s : State) (h : inDomain e s ≡ true) where
   unrefused : addedAnswer (reply e s .answer) ≡ false
   unfolding inDomain
-  unrefused = not-true (addedAnswer (reply e s .answer)) (and-left (not (addedAnswer (reply e s .answer))) (not (anyAdded (recordsOf e s))) (and-left (not (addedAnswer (reply e s .answer)) && not (anyAdded (recordsOf e s))) (panicsNot (rustReply e (s .protocol))) h))
+  unrefused = not-true (addedAnswer (reply e s .answer)) (and-left (not (addedAnswer (reply e s .answer))) (not (anyAdded (resultsOf e s))) (and-left (not (addedAnswer (reply e s .answer)) && not (anyAdded (resultsOf e s))) (panicsNot (rustReply e (s .protocol))) h))
 
-  unrefused-records : anyAdded (recordsOf e s) ≡ false
+  unrefused-records : anyAdded (resultsOf e s) ≡ false
   unfolding inDomain
-  unrefused-records = not-true (anyAdded (recordsOf e s)) (and-right (not (addedAnswer (reply e s .answer))) (not (anyAdded (recordsOf e s))) (and-left (not (addedAnswer (reply e s .answer)) && not (anyAdded (recordsOf e s))) (panicsNot (rustReply e (s .protocol))) h))
+  unrefused-records = not-true (anyAdded (resultsOf e s)) (and-right (not (addedAnswer (reply e s .answer))) (not (anyAdded (resultsOf e s))) (and-left (not (addedAnswer (reply e s .answer)) && not (anyAdded (resultsOf e s))) (panicsNot (rustReply e (s .protocol))) h))
 
   unpanicked : panicsNot (rustReply e (s .protocol)) ≡ true
   unfolding inDomain
-  unpanicked = and-right (not (addedAnswer (reply e s .answer)) && not (anyAdded (recordsOf e s))) (panicsNot (rustReply e (s .protocol))) h
+  unpanicked = and-right (not (addedAnswer (reply e s .answer)) && not (anyAdded (resultsOf e s))) (panicsNot (rustReply e (s .protocol))) h
 
-replies : (e : Call) (s : State) → addedAnswer (reply e s .answer) ≡ false → anyAdded (recordsOf e s) ≡ false → panicsNot (rustReply e (s .protocol)) ≡ true → Same (rustReply e (s .protocol)) (reply e s)
+replies : (e : Call) (s : State) → addedAnswer (reply e s .answer) ≡ false → anyAdded (resultsOf e s) ≡ false → panicsNot (rustReply e (s .protocol)) ≡ true → Same (rustReply e (s .protocol)) (reply e s)
 unfolding reply rustReply port.acceptS port.acceptOutS port.channelS port.nextBundleS port.prepareS port.acksWrittenS port.takeResendsS
 replies (accept t a rs) s n m g = delivery-agrees t a rs s (deliveryMade rs) (onTime t s) n m g
 replies (acceptOut t a r) s n m g = out-agrees t a r s (wellMade r) (onTime t s) (port.hasPlace (isSet (r .on)) a (indexOf r) (s .protocol)) n g
 replies (channel k) s n m g = find-agrees k s (keyMade k) (port.hasPlace (isSet (k .on)) (k .address) (keyIndex k) (s .protocol)) n
 replies (nextBundle k l) s n m g = next-agrees k (length l) s (keyMade k) (rust.hasKey k (s .protocol)) refl n
-replies (prepare t k reliable hs) s n m g = send-agrees t k (isSet reliable) hs s (keyMade k && isFlag reliable && leb (length hs) 16) (onTime t s) (rust.hasKey k (s .protocol)) refl n
+replies (prepare t k reliable hs) s n m g = send-agrees t k (isSet reliable) hs s (asked k reliable (length hs)) (onTime t s) (rust.hasKey k (s .protocol)) refl n
 replies (acksWritten k ns) s n m g = wrote-agrees k ns s (keyMade k) n
 replies (takeResends t timeout giveUp l) s n m g = resend-agrees t timeout giveUp s (onTime t s) (leb (length (flat (rust.allRows t timeout giveUp (s .protocol)))) (length l)) n
 replies (holds h) s n m g = refl

@@ -1,19 +1,18 @@
 -- What each refusal leaves, and which refusals a call can answer. Assumes nothing.
 use mathlib.Core.Path.{_≡_, refl, ap, sym, _∙_}
-use mathlib.Core.Bool.{Bool, true, false, _&&_, _||_, true≢false, false≢true}
+use mathlib.Core.Bool.{Bool, true, false, _||_, true≢false, false≢true}
 use mathlib.Core.List.{List, [], _∷_, _++_}
 use mathlib.Core.Option.{Option, none, some}
 use Prim.Native.Nat.{ℕ}
-use native.Mathlib.Omega.{arith}
 use lib.Dec.{leb, eqb}
 use lib.ListN.{length}
 use borrow.Author.Tests.{eqb-true}
 use Rattle.lists.specs.Pad.{allb}
 use Rattle.lists.specs.Find.{has}
-use Rattle.lists.proofs.Pad.{and-left, and-right}
+use Rattle.lists.proofs.Pad.{never, and-left, and-right}
 use Rattle.packet.specs.declared.Record.{Record}
 use Rattle.packet.specs.declared.Key.{Key}
-use Rattle.packet.specs.Data.{isSet, isFlag, indexOf, keyIndex, wellMade, keyMade}
+use Rattle.packet.specs.Data.{isSet, indexOf, keyIndex, wellMade, keyMade}
 use Rattle.model.specs.State.{Protocol, State, withTime}
 use Rattle.model.specs.Refusals.{Refusal, notWellFormed, outOfRange, timeBelow, channelAbsent, tableFull, oldVersion, cumulativeOff, lastOnReliable, lastNotExpected, lastOff, beyondGroup, overLimit, listTooShort, number, Change, nothing, time, prefix, channel, acks, Stages, stage, changes, left}
 use Rattle.model.specs.Acks.{takeWritten}
@@ -23,7 +22,7 @@ use Rattle.model.specs.Rust as rust
 use Rattle.model.specs.Calls as calls
 use Rattle.model.specs.Calls.{Call, Answer, refused, delivered, undelivered, found, noBundle, bundle, prepared, done, resends, held, prefixIs, flat}
 use Rattle.model.specs.Port as port
-use Rattle.model.specs.Port.{Reply, Result, takes, refuses, Recorded, untimed, timed, refuse, grant, refuseRecord, recordStages, outStages, recordStep, play, count, lastResult, lastMade, deliveryMade, deliveryAnswer, onTime, reply}
+use Rattle.model.specs.Port.{Reply, Result, takes, refuses, Recorded, untimed, timed, refuse, grant, refuseRecord, recordStages, outStages, recordStep, play, count, lastResult, lastMade, deliveryMade, deliveryAnswer, asked, onTime, reply}
 use Rattle.agreement.specs.Effects.{among, stagesOf, numbersOf, numbersOfRecord, Refused, RecordRefused, CallEffects, RecordEffects, AlwaysEffects, Effects}
 use Rattle.agreement.proofs.Rejections.{Leaves, ownRecord, ownOut, record-outcome, out-outcome}
 
@@ -278,7 +277,7 @@ regular (calls.accept t a rs) s = delivery-regular t a rs s (numbersOf (calls.ac
 regular (calls.acceptOut t a r) s = out-regular t a r s (wellMade r) (onTime t s) (port.hasPlace (isSet (r .on)) a (indexOf r) (s .protocol))
 regular (calls.channel k) s = find-regular k s (keyMade k) (port.hasPlace (isSet (k .on)) (k .address) (keyIndex k) (s .protocol))
 regular (calls.nextBundle k l) s = next-regular k (length l) s (keyMade k) (rust.hasKey k (s .protocol))
-regular (calls.prepare t k reliable hs) s = send-regular t k (isSet reliable) hs s (keyMade k && isFlag reliable && leb (length hs) 16) (onTime t s) (rust.hasKey k (s .protocol))
+regular (calls.prepare t k reliable hs) s = send-regular t k (isSet reliable) hs s (asked k reliable (length hs)) (onTime t s) (rust.hasKey k (s .protocol))
 regular (calls.acksWritten k ns) s = wrote-regular k s ns (keyMade k)
 regular (calls.takeResends t timeout giveUp l) s = resend-regular t timeout giveUp s (onTime t s) (leb (length (flat (rust.allRows t timeout giveUp (s .protocol)))) (length l))
 regular (calls.holds h) s = granting (held (rust.holds h (s .protocol))) s (untimed s) [] refl
@@ -300,7 +299,7 @@ module _ (t a : ℕ) (r : Record) (s : State) where
 
   record-room : (fit : Bool) (p : Protocol) → RecordRegular made (port.roomRecord fit a r p s)
   unfolding has
-  record-room true p = λ x e. absurd (let n : _≡_ {A = ℕ} 0 1 = cc in omega arith)
+  record-room true p = λ x e. never (cc)
   record-room false p = record-refusing overLimit made refl
 
   record-judged : (o : Outcome Protocol) → Leaves ownRecord (recordStages a r s) o → RecordRegular made (port.judgeRecord o a r s)
@@ -328,7 +327,7 @@ module _ (t a : ℕ) (r : Record) (s : State) where
 
 -- the answer is the last one's
 refused-last : (y : Result) (m n : ℕ) (x : Refusal) → deliveryAnswer y m ≡ undelivered x n → y ≡ refuses x
-refused-last (takes v) m n x e = absurd (let z : _≡_ {A = ℕ} 0 1 = cc in omega arith)
+refused-last (takes v) m n x e = never (cc)
 refused-last (refuses y) m n x e = let same : y ≡ x = cc in ap refuses same
 
 -- which is well made, so that it is refused from 4 on

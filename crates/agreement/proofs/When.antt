@@ -5,40 +5,35 @@ use mathlib.Core.List.{List, [], _∷_}
 use mathlib.Core.Logic.{_⊎_, inl, inr}
 use mathlib.Core.Option.{Option, none, some}
 use Prim.Native.Nat.{ℕ}
-use native.Mathlib.Omega.{arith}
 use lib.Dec.{ltb, leb, eqb}
 use lib.ListN.{length}
-use Rattle.lists.specs.Find.{has, findBy}
-use Rattle.lists.proofs.Pad.{and-right}
+use Rattle.lists.specs.Find.{has}
+use Rattle.lists.proofs.Pad.{never, and-right}
 use Rattle.seq.specs.Num.{sub, dist}
 use Rattle.packet.specs.declared.Record.{Record}
 use Rattle.packet.specs.declared.Packet.{Packet}
 use Rattle.packet.specs.declared.Key.{Key}
-use Rattle.packet.specs.Data.{Range, noRange, range, rangeOf, packet, isSet, isFlag, indexOf, versionOf, keyIndex, wellMade, keyMade}
+use Rattle.packet.specs.Data.{Range, noRange, range, rangeOf, packet, isSet, indexOf, versionOf, keyIndex, wellMade, keyMade}
 use Rattle.model.specs.State.{Group, OffData, OffChannel, OnChannel, Protocol, State, offWith, onWith, withSource, withPrefix, withTime, offAt, onAt}
 use Rattle.model.specs.Refusals.{Refusal, outOfRange, timeBelow, channelAbsent, tableFull, oldVersion, cumulativeOff, lastOnReliable, lastNotExpected, lastOff, beyondGroup, overLimit, listTooShort}
 use Rattle.model.specs.Acks.{takeWritten}
-use Rattle.model.specs.Group.{Stored, beyond, span, isFirst, newGroup, stale, isBeyond, groupAt, present, create, inGroup, placed, addInPacket, panics}
+use Rattle.model.specs.Group.{Stored, beyond, span, isFirst, stale, isBeyond, groupAt, present, create, inGroup, placed, addInPacket, panics}
 use Rattle.model.specs.Group as group
 use Rattle.model.specs.Reorder.{reorder, regroup}
-use Rattle.model.specs.Record.{Outcome, granted, rejected, farFragment, bareRun, ackedOn, ackedOff, queued, observedIf, reliableOf, withReliable, runOf, reliableIn, storedOn, storedOff, looseOn, looseOff, lastGiven, rulesOn, rulesOff, current, onRecord, cumulativeGiven, offRecord}
+use Rattle.model.specs.Record.{Outcome, ackedOn, ackedOff, queued, observedIf, reliableOf, withReliable, runOf, reliableIn, storedOn, storedOff, looseOn, looseOff, lastGiven, rulesOn, rulesOff, current, onRecord, cumulativeGiven, offRecord}
 use Rattle.model.specs.Room.{fits}
 use Rattle.model.specs.Rust as rust
 use Rattle.model.specs.Calls as calls
-use Rattle.model.specs.Calls.{Call, Answer, flat}
+use Rattle.model.specs.Calls.{Call, flat}
 use Rattle.model.specs.Port as port
-use Rattle.model.specs.Port.{Result, takes, refuses, recordStep, play, lastResult, count, lastMade, deliveryMade, deliveryAnswer, onTime, hasPlace, queueIf, reply}
-use Rattle.agreement.specs.Effects.{RecordRefused}
-use Rattle.agreement.specs.When.{Row, row, Decides, Passes, farIn, farOf, far, ended, tooMuch, onRows, offRows, ownRows, recordRows, lastRows, deliveryRows, rowsOf, tooShort, lacking, refusalIn, Iff, ExactlyWhen}
+use Rattle.model.specs.Port.{Result, takes, refuses, recordStep, play, lastResult, count, lastMade, deliveryMade, deliveryAnswer, asked, onTime, hasPlace, queueIf, reply}
+use Rattle.agreement.specs.When.{Row, row, Decides, Passes, farIn, farOf, far, tooMuch, ownRows, recordRows, lastRows, rowsOf, tooShort, lacking, refusalIn, ExactlyWhen}
 
 -- ---- the first row whose condition holds
 
 unfoldable first : List Row → Option Refusal
 first [] = none
 first (w ∷ ws) = cond (w .holds) (some (w .refusal)) (first ws)
-
-never : {P : Type 0} → _≡_ {A = ℕ} 0 1 → P
-never z = absurd (omega arith)
 
 decides : (x : Refusal) (ws : List Row) → first ws ≡ some x → Decides x ws
 unfolding first Decides
@@ -349,7 +344,7 @@ call-first (calls.accept t a rs) s = delivery-first t a rs s (deliveryMade rs) (
 call-first (calls.acceptOut t a r) s = out-first t a r s (wellMade r) (onTime t s) (hasPlace (isSet (r .on)) a (indexOf r) (s .protocol))
 call-first (calls.channel k) s = find-first k s (keyMade k) (hasPlace (isSet (k .on)) (k .address) (keyIndex k) (s .protocol))
 call-first (calls.nextBundle k l) s = next-first k (length l) s (keyMade k) (rust.hasKey k (s .protocol))
-call-first (calls.prepare t k reliable hs) s = send-first t k (isSet reliable) hs s (keyMade k && isFlag reliable && leb (length hs) 16) (onTime t s) (rust.hasKey k (s .protocol))
+call-first (calls.prepare t k reliable hs) s = send-first t k (isSet reliable) hs s (asked k reliable (length hs)) (onTime t s) (rust.hasKey k (s .protocol))
 call-first (calls.acksWritten k ns) s = wrote-first k s ns (keyMade k)
 call-first (calls.takeResends t timeout giveUp l) s = resend-first t timeout giveUp s (onTime t s) (leb (length (flat (rust.allRows t timeout giveUp (s .protocol)))) (length l))
 call-first (calls.holds h) s = refl

@@ -1,19 +1,19 @@
 -- 01's refusal table, as a statement about every call: a refusal leaves what its last column says, and nothing else; and which refusals
 -- a call can answer.
 use mathlib.Core.Path.{_≡_}
-use mathlib.Core.Bool.{Bool, true, false, _&&_}
+use mathlib.Core.Bool.{Bool, true, false}
 use mathlib.Core.List.{List, [], _∷_, _++_}
 use Prim.Native.Nat.{ℕ}
-use lib.Dec.{leb, eqb}
+use lib.Dec.{eqb}
 use lib.ListN.{length}
 use Rattle.lists.specs.Find.{has}
 use Rattle.packet.specs.declared.Record.{Record}
 use Rattle.packet.specs.declared.Key.{Key}
-use Rattle.packet.specs.Data.{isSet, isFlag, wellMade, keyMade}
+use Rattle.packet.specs.Data.{isSet, wellMade}
 use Rattle.model.specs.State.{State, withPrefix, withTime, withProtocol}
 use Rattle.model.specs.Refusals.{Refusal, number, oldVersion, cumulativeOff, Stages, left}
 use Rattle.model.specs.Calls.{Call, accept, acceptOut, channel, nextBundle, prepare, acksWritten, takeResends, holds, lastAcceptedPrefix, resetPrefixOffset, transferPrefixOffset, refused, undelivered, lent}
-use Rattle.model.specs.Port.{untimed, timed, refuses, recordChannel, recordAcks, recordStages, outStages, recordStep, play, deliveryMade, onTime, reply, replyIf}
+use Rattle.model.specs.Port.{untimed, timed, refuses, recordChannel, recordAcks, recordStages, outStages, recordStep, play, deliveryMade, asked, onTime, reply, replyIf}
 
 -- is the refusal's number one of these
 abbrev pub among : List ℕ → Refusal → Bool
@@ -108,7 +108,7 @@ pub record AlwaysEffects : Type 0 where
   -- "A timed call past check 3 always sets the latest time": past 2 and 3, whatever it answers
   pub delivery-sets-time : (t a : ℕ) (rs : List Record) (s : State) → deliveryMade rs ≡ true → onTime t s ≡ true → reply (accept t a rs) s .state .latest ≡ t
   pub forward-sets-time : (t a : ℕ) (r : Record) (s : State) → wellMade r ≡ true → onTime t s ≡ true → reply (acceptOut t a r) s .state .latest ≡ t
-  pub send-sets-time : (t : ℕ) (k : Key) (reliable : ℕ) (hs : List ℕ) (s : State) → keyMade k && isFlag reliable && leb (length hs) 16 ≡ true → onTime t s ≡ true → reply (prepare t k reliable hs) s .state .latest ≡ t
+  pub send-sets-time : (t : ℕ) (k : Key) (reliable : ℕ) (hs : List ℕ) (s : State) → asked k reliable (length hs) ≡ true → onTime t s ≡ true → reply (prepare t k reliable hs) s .state .latest ≡ t
   pub resends-set-time : (t timeout giveUp : ℕ) (l : List ℕ) (s : State) → onTime t s ≡ true → reply (takeResends t timeout giveUp l) s .state .latest ≡ t
   -- "A refused call writes nothing to a lent list"
   pub lent-lists : (x : Refusal) (l : List ℕ) → lent (refused x) l ≡ l

@@ -1,7 +1,7 @@
 -- 01's refusal table, "exactly when": the rows of every call and of every record in order of checking, each with its condition. A refusal
 -- is answered exactly when its condition holds and no earlier one does.
 use mathlib.Core.Path.{_≡_}
-use mathlib.Core.Bool.{Bool, true, false, not, cond, _&&_}
+use mathlib.Core.Bool.{Bool, true, false, not, _&&_}
 use mathlib.Core.List.{List, [], _∷_}
 use mathlib.Core.Logic.{_⊎_}
 use mathlib.Core.Option.{Option, none, some}
@@ -12,7 +12,7 @@ use Rattle.lists.specs.Find.{has, findBy}
 use Rattle.seq.specs.Num.{sub, dist}
 use Rattle.packet.specs.declared.Record.{Record}
 use Rattle.packet.specs.declared.Key.{Key}
-use Rattle.packet.specs.Data.{Range, noRange, range, rangeOf, packet, isSet, isFlag, indexOf, versionOf, keyIndex, wellMade, keyMade}
+use Rattle.packet.specs.Data.{Range, noRange, range, rangeOf, packet, isSet, indexOf, versionOf, keyIndex, wellMade, keyMade}
 use Rattle.model.specs.State.{Group, OffChannel, OnChannel, Protocol, State, withTime, offAt, onAt}
 use Rattle.model.specs.Refusals.{Refusal, outOfRange, timeBelow, channelAbsent, tableFull, oldVersion, cumulativeOff, lastOnReliable, lastNotExpected, lastOff, beyondGroup, overLimit, listTooShort}
 use Rattle.model.specs.Acks.{takeWritten}
@@ -21,7 +21,7 @@ use Rattle.model.specs.Record.{Outcome, granted, rejected, farFragment, bareRun
 use Rattle.model.specs.Room.{fits}
 use Rattle.model.specs.Rust as rust
 use Rattle.model.specs.Calls.{Call, accept, acceptOut, channel, nextBundle, prepare, acksWritten, takeResends, holds, lastAcceptedPrefix, resetPrefixOffset, transferPrefixOffset, Answer, refused, delivered, undelivered, found, noBundle, bundle, prepared, done, resends, held, prefixIs, flat}
-use Rattle.model.specs.Port.{hasPlace, recordStep, deliveryMade, onTime, queueIf, reply}
+use Rattle.model.specs.Port.{hasPlace, recordStep, deliveryMade, asked, onTime, queueIf, reply}
 use Rattle.agreement.specs.Effects.{RecordRefused}
 
 -- a row of the table, and whether its condition holds
@@ -133,7 +133,7 @@ nextRows k places s =
 
 abbrev pub sendRows : ℕ → Key → ℕ → List ℕ → State → List Row
 sendRows t k reliable hs s =
-    row outOfRange (not (keyMade k && isFlag reliable && leb (length hs) 16))
+    row outOfRange (not (asked k reliable (length hs)))
     ∷ row timeBelow (not (onTime t s))
     ∷ row channelAbsent (not (rust.hasKey k (s .protocol)))
     ∷ row overLimit (not (fits (rust.prepared t k (isSet reliable) hs (s .protocol))))

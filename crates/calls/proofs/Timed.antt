@@ -9,21 +9,7 @@ use Rattle.model.specs.Room.{fits}
 use Rattle.model.specs.Wellformed.{good, wellFormed}
 use Rattle.model.specs.Port.{onTime}
 use Rattle.table.specs.declared.Table.{Table}
-use Rattle.table.specs.Table.{abs, repr, Wf}
-
-abbrev pub timeSet : ℕ → Table → Table
-timeSet time t =
-    record {
-      latest = time;
-      forwarding = t .forwarding;
-      prefix = t .prefix;
-      offset = t .offset;
-      source = t .source;
-      offcount = t .offcount;
-      oncount = t .oncount;
-      offs = t .offs;
-      ons = t .ons;
-    }
+use Rattle.table.specs.Table.{abs, repr, timeSet, Wf}
 
 pub set-form : (time : ℕ) (t : Table) → Wf t → timeSet time t ≡ repr (model.withTime time (abs t))
 unfolding repr

@@ -4,11 +4,9 @@ use Prim.Native.Nat.{ℕ}
 use lib.ListN.{length}
 use Rattle.packet.specs.declared.View.{View}
 use Rattle.packet.specs.declared.Prepared.{Prepared}
+pub use Rattle.packet.specs.Data.{noView}
 use Rattle.model.specs.Refusals.{number}
 use Rattle.model.specs.Calls.{Answer, refused, delivered, undelivered, found, noBundle, bundle, prepared, done, resends, held, prefixIs}
-
-abbrev pub noView : View
-noView = record { on = 0; address = 0; index = 0; version = 0; expected = 0 }
 
 abbrev pub noPrepared : Prepared
 noPrepared = record { allocated = 0; first = 0; on = 0; expected = 0; index = 0; version = 0; offset = 0 }

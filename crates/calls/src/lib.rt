@@ -82,16 +82,6 @@ pub struct Prefix {
 
 // ---- a channel's place in the table
 
-// The index that a key names, 0 where it names none.
-pub fn index_of(k: Key) -> u32
-    ensures { λ r. ⌜ r ≡ keyIndex k ⌝ }
-{
-    if k.indexed == 1 {
-        return k.index;
-    }
-    0
-}
-
 // Where the channel of that address and index stands, or the count where it is absent.
 pub fn on_place(t: Table, address: u32, index: u32) -> usize
     requires { ⌜ Wf t ⌝ }
@@ -100,6 +90,15 @@ pub fn on_place(t: Table, address: u32, index: u32) -> usize
     let keys = table::keys_of(t);
     let l = keys.ons;
     table::on_slot(l, t.oncount as usize, address, index)
+}
+
+// The same by a key.
+pub fn on_at(t: Table, k: Key) -> usize
+    requires { ⌜ Wf t ⌝ }
+    ensures { λ r. ⌜ r ≡ placeOn (k .address) (keyIndex k) (abs t) ⌝ }
+{
+    let index = k.index_of();
+    on_place(t, k.address, index)
 }
 
 pub fn off_place(t: Table, address: u32) -> usize

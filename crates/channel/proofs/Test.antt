@@ -16,7 +16,8 @@ use Rattle.model.specs.Room.{fitsData, fitsOff, fitsOn}
 use Rattle.model.specs.Wellformed.{distinct, entryGood, packetGood, groupGood, sameFirst, dataGood, rising, consecutive, keyGood, onGood, offGood}
 use Rattle.out_list.specs.declared.OutList.{OutList}
 use Rattle.out_list.specs.Out as out
-use Rattle.out_list.proofs.Test.{outGood-iff}
+use Rattle.out_test.specs.Test.{outGood}
+use Rattle.out_test.proofs.Test.{outGood-iff}
 use Rattle.ack_queue.specs.declared.AckQueue.{AckQueue}
 use Rattle.ack_queue.specs.Queue as acks
 use Rattle.ack_queue.proofs.Test.{acksGood-iff}
@@ -27,12 +28,11 @@ use Rattle.bundles.specs.declared.Bundles.{Bundles}
 use Rattle.bundles.specs.Bundles as bundles
 use Rattle.bundles.specs.Bundles.{splitBy}
 use Rattle.bundles.proofs.Model.{good-iff}
-use Rattle.waiting.specs.declared.Waiting.{Waiting}
 use Rattle.waiting.specs.Waiting as waiting
 use Rattle.waiting.proofs.Form.{buffer-good, queue-good}
 use Rattle.channel.specs.declared.OffChannel.{OffChannel}
 use Rattle.channel.specs.declared.OnChannel.{OnChannel}
-use Rattle.channel.specs.Channel.{absOff, reprOff, absOn, reprOn, WfOff, WfOn, goodOff, numbersGood, goodOn, idleOff, idleOn}
+use Rattle.channel.specs.Channel.{absOff, reprOff, absOn, reprOn, WfOff, WfOn, offTest, numbersGood, onTest, idleOff, idleOn}
 use Rattle.channel.proofs.Laws.{form-off, form-on, repr-wf-off, repr-wf-on, abs-repr-off, abs-repr-on}
 
 -- ---- what both kinds have
@@ -60,7 +60,7 @@ parts-data latest d p = rw (p .out, p .acks, p .groups, p .firsts)
 
 -- the four lists pass their tests
 record Lists (latest : ℕ) (o : OutList) (a : AckQueue) (g : Groups) (b : Bundles) : Type 0 where
-  pub out : out.outGood latest o ≡ true
+  pub out : outGood latest o ≡ true
   pub acks : acks.acksGood a ≡ true
   pub groups : groups.groupsGood latest g ≡ true
   pub bundles : bundles.bundlesGood b ≡ true
@@ -93,10 +93,10 @@ data-lists latest o a g b wo wa wg wb q =
 
 -- ---- off-channel
 
-off-lists : (latest : ℕ) (c : OffChannel) → goodOff latest c ≡ true → Lists latest (c .out) (c .acks) (c .groups) (c .bundles)
-unfolding goodOff
+off-lists : (latest : ℕ) (c : OffChannel) → offTest latest c ≡ true → Lists latest (c .out) (c .acks) (c .groups) (c .bundles)
+unfolding offTest
 off-lists latest c q =
-    let o = out.outGood latest (c .out) in
+    let o = outGood latest (c .out) in
     let a = acks.acksGood (c .acks) in
     let g = groups.groupsGood latest (c .groups) in
     let b = bundles.bundlesGood (c .bundles) in
@@ -104,7 +104,7 @@ off-lists latest c q =
     let q₂ : o && a ≡ true = and-left (o && a) g q₁ in
     record { out = and-left o a q₂; acks = and-right o a q₂; groups = and-right (o && a) g q₁; bundles = and-right (o && a && g) b q }
 
-pub off-good-wf : (latest : ℕ) (c : OffChannel) → goodOff latest c ≡ true → WfOff c
+pub off-good-wf : (latest : ℕ) (c : OffChannel) → offTest latest c ≡ true → WfOff c
 off-good-wf latest c q =
     let l = off-lists latest c q in
     record {
@@ -114,17 +114,17 @@ off-good-wf latest c q =
       bundles = good-iff (c .bundles) .0 (l .bundles);
     }
 
-pub off-good-model : (latest : ℕ) (c : OffChannel) → goodOff latest c ≡ true → offGood latest (absOff c) ≡ true
+pub off-good-model : (latest : ℕ) (c : OffChannel) → offTest latest c ≡ true → offGood latest (absOff c) ≡ true
 off-good-model latest c q = lists-data latest (c .out) (c .acks) (c .groups) (c .bundles) (off-lists latest c q)
 
-pub off-wf-good : (latest : ℕ) (c : OffChannel) → WfOff c → offGood latest (absOff c) ≡ true → goodOff latest c ≡ true
-unfolding goodOff
+pub off-wf-good : (latest : ℕ) (c : OffChannel) → WfOff c → offGood latest (absOff c) ≡ true → offTest latest c ≡ true
+unfolding offTest
 off-wf-good latest c w q =
     let l = data-lists latest (c .out) (c .acks) (c .groups) (c .bundles) (w .out) (w .acks) (w .groups) (w .bundles) q in
     rw (l .out, l .acks, l .groups, l .bundles)
 
-pub goodOff-iff : (latest : ℕ) (c : OffChannel) → goodOff latest c ≡ true ↔ (WfOff c × (offGood latest (absOff c) ≡ true))
-goodOff-iff latest c = ((λ q. (off-good-wf latest c q, off-good-model latest c q)), λ p. off-wf-good latest c (p .0) (p .1))
+pub offTest-iff : (latest : ℕ) (c : OffChannel) → offTest latest c ≡ true ↔ (WfOff c × (offGood latest (absOff c) ≡ true))
+offTest-iff latest c = ((λ q. (off-good-wf latest c q, off-good-model latest c q)), λ p. off-wf-good latest c (p .0) (p .1))
 
 -- ---- on-channel
 
@@ -134,11 +134,11 @@ record OnParts (latest : ℕ) (c : OnChannel) : Type 0 where
   pub buffer : waiting.bufferGood (c .buffer) (c .expected) ≡ true
   pub queue : waiting.queueGood (c .queue) (c .expected) ≡ true
 
-on-parts : (latest : ℕ) (c : OnChannel) → goodOn latest c ≡ true → OnParts latest c
-unfolding goodOn
+on-parts : (latest : ℕ) (c : OnChannel) → onTest latest c ≡ true → OnParts latest c
+unfolding onTest
 on-parts latest c q =
     let n = numbersGood c in
-    let o = out.outGood latest (c .out) in
+    let o = outGood latest (c .out) in
     let a = acks.acksGood (c .acks) in
     let g = groups.groupsGood latest (c .groups) in
     let b = bundles.bundlesGood (c .bundles) in
@@ -162,7 +162,7 @@ on-parts latest c q =
       queue = and-right (n && o && a && g && b && w) s q;
     }
 
-pub on-good-wf : (latest : ℕ) (c : OnChannel) → goodOn latest c ≡ true → WfOn c
+pub on-good-wf : (latest : ℕ) (c : OnChannel) → onTest latest c ≡ true → WfOn c
 on-good-wf latest c q =
     let p = on-parts latest c q in
     record {
@@ -235,7 +235,7 @@ pub parts-model : (latest : ℕ) (m : model.OnChannel) → On latest m → onGoo
 unfolding onGood
 parts-model latest m p = λ i. p .key i && p .lists i && p .expected i && p .source i && p .buffered i && p .queued i && p .rises i && p .follows i
 
-pub on-good-model : (latest : ℕ) (c : OnChannel) → goodOn latest c ≡ true → onGood latest (absOn c) ≡ true
+pub on-good-model : (latest : ℕ) (c : OnChannel) → onTest latest c ≡ true → onGood latest (absOn c) ≡ true
 on-good-model latest c q =
     let p = on-parts latest c q in
     let b = buffer-good (c .buffer) (c .expected) .0 (p .buffer) in
@@ -254,8 +254,8 @@ on-good-model latest c q =
       follows = s .2;
     }
 
-pub on-wf-good : (latest : ℕ) (c : OnChannel) → WfOn c → onGood latest (absOn c) ≡ true → goodOn latest c ≡ true
-unfolding goodOn
+pub on-wf-good : (latest : ℕ) (c : OnChannel) → WfOn c → onGood latest (absOn c) ≡ true → onTest latest c ≡ true
+unfolding onTest
 on-wf-good latest c w q =
     let p = model-parts latest (absOn c) q in
     let n = numbers-all c (p .key) (p .expected) (p .source) in
@@ -264,12 +264,12 @@ on-wf-good latest c w q =
     let s = queue-good (c .queue) (c .expected) .1 (w .queue, p .queued, p .follows) in
     λ i. n i && l .out i && l .acks i && l .groups i && l .bundles i && b i && s i
 
-pub goodOn-iff : (latest : ℕ) (c : OnChannel) → goodOn latest c ≡ true ↔ (WfOn c × (onGood latest (absOn c) ≡ true))
-goodOn-iff latest c = ((λ q. (on-good-wf latest c q, on-good-model latest c q)), λ p. on-wf-good latest c (p .0) (p .1))
+pub onTest-iff : (latest : ℕ) (c : OnChannel) → onTest latest c ≡ true ↔ (WfOn c × (onGood latest (absOn c) ≡ true))
+onTest-iff latest c = ((λ q. (on-good-wf latest c q, on-good-model latest c q)), λ p. on-wf-good latest c (p .0) (p .1))
 
 -- ---- a channel that passes its test and is idle is all zero, and the other way round
 
-pub idle-off-zero : (latest : ℕ) (c : OffChannel) → goodOff latest c ≡ true → idleOff c ≡ true → c ≡ reprOff (model.newOff 0)
+pub idle-off-zero : (latest : ℕ) (c : OffChannel) → offTest latest c ≡ true → idleOff c ≡ true → c ≡ reprOff (model.newOff 0)
 unfolding idleOff splitBy
 idle-off-zero latest c g q =
     let k = eqb (c .address) 0 in
@@ -292,7 +292,7 @@ zero-off-fits : fitsOff (model.newOff 0) ≡ true
 unfolding fitsData allb joined
 zero-off-fits = refl
 
-pub zero-off-good : (latest : ℕ) → goodOff latest (reprOff (model.newOff 0)) ≡ true
+pub zero-off-good : (latest : ℕ) → offTest latest (reprOff (model.newOff 0)) ≡ true
 unfolding dataGood allb distinct
 zero-off-good latest =
     off-wf-good
@@ -308,10 +308,7 @@ zero-off-idle = refl
 pub zero-idle-off : (c : OffChannel) → c ≡ reprOff (model.newOff 0) → idleOff c ≡ true
 zero-idle-off c e = ap (λ (d : OffChannel). idleOff d) e ∙ zero-off-idle
 
-pub idleOff-iff : (latest : ℕ) (c : OffChannel) → goodOff latest c ≡ true → idleOff c ≡ true ↔ c ≡ reprOff (model.newOff 0)
-idleOff-iff latest c g = (idle-off-zero latest c g, zero-idle-off c)
-
-pub idle-on-zero : (latest : ℕ) (c : OnChannel) → goodOn latest c ≡ true → idleOn c ≡ true → c ≡ reprOn (model.newOn 0 0 0)
+pub idle-on-zero : (latest : ℕ) (c : OnChannel) → onTest latest c ≡ true → idleOn c ≡ true → c ≡ reprOn (model.newOn 0 0 0)
 unfolding idleOn splitBy
 idle-on-zero latest c g q =
     let k = eqb (c .address) 0 in
@@ -361,7 +358,7 @@ zero-on-fits : fitsOn (model.newOn 0 0 0) ≡ true
 unfolding fitsData allb joined
 zero-on-fits = refl
 
-pub zero-on-good : (latest : ℕ) → goodOn latest (reprOn (model.newOn 0 0 0)) ≡ true
+pub zero-on-good : (latest : ℕ) → onTest latest (reprOn (model.newOn 0 0 0)) ≡ true
 unfolding onGood dataGood allb distinct rising consecutive
 zero-on-good latest =
     on-wf-good
@@ -376,6 +373,3 @@ zero-on-idle = refl
 
 pub zero-idle-on : (c : OnChannel) → c ≡ reprOn (model.newOn 0 0 0) → idleOn c ≡ true
 zero-idle-on c e = ap (λ (d : OnChannel). idleOn d) e ∙ zero-on-idle
-
-pub idleOn-iff : (latest : ℕ) (c : OnChannel) → goodOn latest c ≡ true → idleOn c ≡ true ↔ c ≡ reprOn (model.newOn 0 0 0)
-idleOn-iff latest c g = (idle-on-zero latest c g, zero-idle-on c)

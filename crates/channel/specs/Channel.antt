@@ -1,5 +1,4 @@
 -- The channel of the model that a channel's struct stands for, and what the port makes of the model's outcome on one channel.
-use mathlib.Core.Path.{_≡_}
 use mathlib.Core.Bool.{Bool, true, false, _&&_}
 use Prim.Native.Nat.{ℕ}
 use lib.Dec.{eqb}
@@ -10,6 +9,7 @@ use Rattle.model.specs.Room.{fitsOff, fitsOn}
 use Rattle.model.specs.Wellformed.{keyGood}
 use Rattle.seq.specs.Num.{legal}
 use Rattle.out_list.specs.Out as out
+use Rattle.out_test.specs.Test.{outGood}
 use Rattle.ack_queue.specs.Queue as acks
 use Rattle.fragments.specs.Groups as groups
 use Rattle.bundles.specs.Bundles as bundles
@@ -63,6 +63,26 @@ reprOn m =
       queue = waiting.repr (m .queue);
     }
 
+-- a channel with another key
+abbrev pub keyedOn : ℕ → ℕ → ℕ → OnChannel → OnChannel
+keyedOn a i v c =
+    record {
+      address = a;
+      index = i;
+      version = v;
+      expected = c .expected;
+      source = c .source;
+      out = c .out;
+      acks = c .acks;
+      groups = c .groups;
+      bundles = c .bundles;
+      buffer = c .buffer;
+      queue = c .queue;
+    }
+
+abbrev pub keyedOff : ℕ → OffChannel → OffChannel
+keyedOff a c = record { address = a; out = c .out; acks = c .acks; groups = c .groups; bundles = c .bundles }
+
 -- each of its lists is in its form
 pub record WfOff (c : OffChannel) : Type 0 where
   pub out : out.Wf (c .out)
@@ -81,16 +101,16 @@ pub record WfOn (c : OnChannel) : Type 0 where
 -- ---- the tests, for any value: each list's own, and on-channel the key and the numbers. What each says is shown in the proofs
 
 -- every list in its form and good, at a table's latest time
-unfoldable pub goodOff : ℕ → OffChannel → Bool
-goodOff latest c = out.outGood latest (c .out) && acks.acksGood (c .acks) && groups.groupsGood latest (c .groups) && bundles.bundlesGood (c .bundles)
+unfoldable pub offTest : ℕ → OffChannel → Bool
+offTest latest c = outGood latest (c .out) && acks.acksGood (c .acks) && groups.groupsGood latest (c .groups) && bundles.bundlesGood (c .bundles)
 
 -- "numbers and keys are legal": the key has no index, or "index and version (both nonzero)"
 unfoldable pub numbersGood : OnChannel → Bool
 numbersGood c = keyGood (absOn c) && legal (c .expected) && legal (c .source)
 
-unfoldable pub goodOn : ℕ → OnChannel → Bool
-goodOn latest c =
-    numbersGood c && out.outGood latest (c .out) && acks.acksGood (c .acks) && groups.groupsGood latest (c .groups) && bundles.bundlesGood (c .bundles) && waiting.bufferGood (c .buffer) (c .expected) && waiting.queueGood (c .queue) (c .expected)
+unfoldable pub onTest : ℕ → OnChannel → Bool
+onTest latest c =
+    numbersGood c && outGood latest (c .out) && acks.acksGood (c .acks) && groups.groupsGood latest (c .groups) && bundles.bundlesGood (c .bundles) && waiting.bufferGood (c .buffer) (c .expected) && waiting.queueGood (c .queue) (c .expected)
 
 -- no key and no numbers, and every list is empty: of a channel that passes its test this says that it is all zero
 unfoldable pub idleOff : OffChannel → Bool

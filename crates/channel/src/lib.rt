@@ -11,7 +11,7 @@ ghost use lib.Dec.{eqb};
 ghost use Rattle.seq.specs.Num as Num;
 ghost use Rattle.model.specs.State as model;
 ghost use Rattle.model.specs.Rust.{holdsOff, holdsOn};
-ghost use Rattle.channel.specs.Channel.{absOff, reprOff, absOn, reprOn, WfOff, WfOn, goodOff, goodOn, idleOff, idleOn};
+ghost use Rattle.channel.specs.Channel.{absOff, reprOff, absOn, reprOn, WfOff, WfOn, offTest, onTest, idleOff, idleOn};
 
 // Rust: OffChannel, with its OffChannelData.
 #[repr(C)]
@@ -167,10 +167,10 @@ pub fn on_holds(c: OnChannel, handle: u32) -> bool
 // ---- the tests, for any value
 
 pub fn off_well_formed(c: OffChannel, latest: u64) -> bool
-    ensures { λ r. ⌜ r ≡ goodOff latest c ⌝ }
+    ensures { λ r. ⌜ r ≡ offTest latest c ⌝ }
 {
     let o = c.out;
-    if !out_list::well_formed(o, latest) {
+    if !out_test::well_formed(o, latest) {
         return false;
     }
     let a = c.acks;
@@ -202,13 +202,13 @@ fn numbers_good(index: u32, version: u32, expected: u32, source: u32) -> bool
 }
 
 pub fn on_well_formed(c: OnChannel, latest: u64) -> bool
-    ensures { λ r. ⌜ r ≡ goodOn latest c ⌝ }
+    ensures { λ r. ⌜ r ≡ onTest latest c ⌝ }
 {
     if !numbers_good(c.index, c.version, c.expected, c.source) {
         return false;
     }
     let o = c.out;
-    if !out_list::well_formed(o, latest) {
+    if !out_test::well_formed(o, latest) {
         return false;
     }
     let a = c.acks;

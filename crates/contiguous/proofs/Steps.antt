@@ -20,11 +20,12 @@ use Rattle.packet.specs.declared.Place.{Place}
 use Rattle.packet.specs.declared.Place.the-variants.{Again, At}
 use Rattle.packet.specs.Data.{noPacket, rangeOf}
 use Rattle.model.specs.Acks.{search, insertedAt}
-use Rattle.model.specs.Group.{isRange, share, handles, go, only, enough, first, front, step, span}
+use Rattle.model.specs.Group.{isRange, share, handles, go, only, enough, first, step, span}
 use Rattle.model.specs.Reorder.{Reliable, packetNumber, insertBuffered, move, place, reorder}
 use Rattle.waiting.specs.declared.Waiting.{Waiting}
 use Rattle.waiting.specs.Waiting as Waits
 use Rattle.waiting.proofs.Form as WaitsForm
+use Rattle.waiting.proofs.Steps.{Dropping, dropping-start}
 use Rattle.contiguous.specs.declared.Work.{Work}
 use Rattle.contiguous.specs.declared.Inserted.{Inserted}
 use Rattle.contiguous.specs.declared.Placed.{Placed}
@@ -447,36 +448,5 @@ list-end w at n l j s h = copying-end 64 0 [] (handles (some w at n)) 0 n l j (s
 
 -- ---- the loop of `left_of`
 
-pub record Leaving (w : Work) (at : ℕ) (r : Waiting) (j : ℕ) : Type 0 where
-  pub whole : at + j ≤ w .len
-  pub room : w .len ≤ 65
-  pub few : w .len ≤ at + 32
-  pub copied : Copying 32 noPacket [] (drop at (abs w)) 0 (w .len - at) (r .packets) j
-
-pub left-start : (w : Work) (at : ℕ) (r : Waiting) → Wf w → at ≤ length (abs w) → length (abs w) ≤ at + 32 → r ≡ Waits.repr [] → Leaving w at r 0
-left-start w at r g h l q =
-    record {
-      whole = omega (arith, wf-len w g);
-      room = wf-len-le w g;
-      few = omega (arith, wf-len w g);
-      copied =
-          copying-start 32 noPacket [] (drop at (abs w)) 0 (w .len - at) (r .packets) refl (omega (arith, wf-len w g, length-drop at (abs w))) (omega (arith, wf-len w g))
-          (ap (λ (v : Waiting). v .packets) q);
-    }
-
-pub left-step : (w : Work) (at : ℕ) (r : Waiting) (j : ℕ) → Leaving w at r j → at + j < w .len → Leaving w at (record { len = r .len; packets = set (r .packets) j (getD (w .packets) (at + j) noPacket) }) (j + 1)
-left-step w at r j s h =
-    let v = getD (w .packets) (at + j) noPacket in
-    let e : v ≡ getD (drop at (abs w)) j noPacket = sym (getD-drop at (abs w) j noPacket ∙ getD-take (w .len) (w .packets) (at + j) noPacket h) in
-    let z : 0 + j ≡ j = omega arith in
-    record {
-      whole = omega arith;
-      room = s .room;
-      few = s .few;
-      copied = rw z at (copying-step 32 noPacket [] (drop at (abs w)) 0 (w .len - at) (r .packets) j v (s .copied) (omega arith) e);
-    }
-
-pub left-done : (w : Work) (at : ℕ) (r : Waiting) (j : ℕ) → Leaving w at r j → w .len ≤ at + j → _≡_ {A = Waiting} (record { len = j; packets = r .packets }) (Waits.repr (drop at (abs w)))
-left-done w at r j s h =
-    let l : length (drop at (abs w)) ≡ j = omega (arith, s .whole, s .copied .count) in
-    cc (l, copying-end 32 noPacket [] (drop at (abs w)) 0 (w .len - at) (r .packets) j (s .copied) (omega (arith, s .whole)))
+pub left-start : (w : Work) (at : ℕ) (r : Waiting) → Wf w → at ≤ length (abs w) → length (abs w) ≤ at + 32 → r ≡ Waits.repr [] → Dropping 65 (w .len) (w .packets) at r 0
+left-start w at r g h l q = dropping-start 65 (w .len) (w .packets) at r (wf-len-le w g) (wf-length w g) (omega (arith, wf-len w g)) (omega (arith, wf-len w g)) q

@@ -12,15 +12,13 @@ use borrow.Author.Tests.{le-leb, lt-leb, eq-eqb, ne-eqb, eqb-true, leb-true, leb
 use lib.Dec.{leb}
 use lib.ListN.{length, take, getD, set, replicate, length-set, length-append, length-replicate}
 use Rattle.lists.specs.Pad.{pad, removeAt, allb}
-use Rattle.lists.specs.Find.{joined, has, position, findBy, putBy, removeFirst}
-use Rattle.lists.proofs.Pad.{take-pad, and-left, and-right}
+use Rattle.lists.specs.Find.{joined, has, position, putBy, removeFirst}
+use Rattle.lists.proofs.Pad.{never, take-pad, and-left, and-right}
 use Rattle.lists.proofs.Find.{find-absent, length-removeAt-le}
 use Rattle.lists.proofs.Tests.{allb-set, allb-removeAt, allb-one}
 use Rattle.lists.proofs.Joined.{joined-one}
 use Rattle.lists.proofs.Positions.{Stands, stands, none-stands}
-use Rattle.seq.specs.Num.{dist}
 use Rattle.packet.specs.declared.Packet.{Packet}
-use Rattle.packet.specs.declared.OutEntry.{OutEntry}
 use Rattle.packet.specs.Data.{Range, noRange, range, rangeIf, rangeOf}
 use Rattle.model.specs.State.{Group, OffData}
 use Rattle.model.specs.Room.{fitsGroup}
@@ -40,12 +38,12 @@ use Rattle.fragments.proofs.Many.{outside, wf-len, wf-few, len-le, abs-
 -- ---- where find found it
 
 pub found-at : (f : Found) (o : Option ℕ) (i : ℕ) → f ≡ foundOf o → f ≡ At i → o ≡ some i
-found-at f none i p q = let z : _≡_ {A = ℕ} 0 1 = cc in absurd (omega arith)
+found-at f none i p q = never (cc)
 found-at f (some k) i p q = let e : k ≡ i = cc in ap (λ (n : ℕ). some n) e
 
 pub found-none : (f : Found) (o : Option ℕ) → f ≡ foundOf o → f ≡ Nothing → o ≡ none
 found-none f none p q = refl
-found-none f (some k) p q = let z : _≡_ {A = ℕ} 0 1 = cc in absurd (omega arith)
+found-none f (some k) p q = never (cc)
 
 -- ---- room
 
@@ -426,49 +424,6 @@ pub refused-is : (n : ℕ) (gs : Groups) (b : Bundles) (p : Packet) (t : ℕ) �
 unfolding added
 refused-is n gs b p t q h =
     (λ j. record { code = q j; groups = gs; bundles = b }) ∙ refusal (addInPacket t p (dataOf (abs gs) (B.abs b))) gs b (λ e. h (q ∙ e))
-
--- ---- the rule looks at the groups and the bundles alone: the answer is the model's on any data that has them
-
-module _ (t : ℕ) (p : Packet) (gs : Groups) (b : Bundles) (o o′ : List OutEntry) (a a′ : List ℕ) where
-  abbrev lists : List Group → List (List ℕ) → OffData
-  lists l c = record { out = o; acks = a; groups = l; bundles = c }
-
-  abbrev lists′ : List Group → List (List ℕ) → OffData
-  lists′ l c = record { out = o′; acks = a′; groups = l; bundles = c }
-
-  same-within : (x : Bool) (l : List Group) (c : List (List ℕ)) → within x (lists l c) gs b ≡ within x (lists′ l c) gs b
-  same-within true l c = refl
-  same-within false l c = refl
-
-  same-done : (l : List Group) (c : List (List ℕ)) → answer (done (lists l c)) gs b ≡ answer (done (lists′ l c)) gs b
-  same-done l c = same-within (fitsLists (lists l c)) l c
-
-  same-create : (far : Bool) (k h : ℕ) (x : Group) (l : List Group) (c : List (List ℕ)) → answer (create far k h t x (lists l c)) gs b ≡ answer (create far k h t x (lists′ l c)) gs b
-  same-create true k h x l c = refl
-  same-create false k h x l c = same-done (l ++ (store k h t x ∷ [])) c
-
-  same-stored : (f : Bool) (x : Group) (l : List Group) (c : List (List ℕ)) → answer (done (storedIn f x (lists l c))) gs b ≡ answer (done (storedIn f x (lists′ l c))) gs b
-  same-stored true x l c = same-done (removeFirst (isFirst (x .first)) l) (c ++ (inPlaces (x .places) ∷ []))
-  same-stored false x l c = same-done (putBy (isFirst (x .first)) x l) c
-
-  same-present : (old far : Bool) (k h : ℕ) (x : Group) (l : List Group) (c : List (List ℕ)) → answer (present old far k h t x (lists l c)) gs b ≡ answer (present old far k h t x (lists′ l c)) gs b
-  same-present true far k h x l c = same-done l c
-  same-present false true k h x l c = refl
-  same-present false false k h x l c = same-stored (full (store k h t x)) (store k h t x) l c
-
-  same-group : (y : Bool) (k h : ℕ) (x : Group) (l : List Group) (c : List (List ℕ)) → answer (inGroup y k h t x (lists l c)) gs b ≡ answer (inGroup y k h t x (lists′ l c)) gs b
-  same-group true k h x l c = same-present (stale t x) (isBeyond k x) k h x l c
-  same-group false k h x l c = same-create (isBeyond k x) k h x l c
-
-  same-placed : (r : Range) (l : List Group) (c : List (List ℕ)) → answer (placed r t p (lists l c)) gs b ≡ answer (placed r t p (lists′ l c)) gs b
-  same-placed noRange l c = same-done l (c ++ ((p .handle ∷ []) ∷ []))
-  same-placed (range f n) l c = same-group (has (isFirst f) l) (dist (p .number) f) (p .handle) (findBy (isFirst f) (newGroup f (span f n) t) l) l c
-
-pub added-any : (t : ℕ) (p : Packet) (gs : Groups) (b : Bundles) (d : OffData) → d .groups ≡ abs gs → d .bundles ≡ B.abs b → added t p gs b ≡ answer (addInPacket t p d) gs b
-unfolding added addInPacket
-added-any t p gs b d u v =
-    same-placed t p gs b [] (d .out) [] (d .acks) (rangeOf p) (abs gs) (B.abs b)
-    ∙ sym (λ j. answer (placed (rangeOf p) t p (record { out = d .out; acks = d .acks; groups = u j; bundles = v j })) gs b)
 
 -- ---- both lists stay well formed, refused or granted
 

@@ -263,9 +263,6 @@ wfg-good g w =
     let c = eq-eqb (sum (g .marks)) (g .count) s in
     λ i. a i && b i && l i && (z i && p i) && c i
 
-pub fragments-iff : (g : Fragments) → fragmentsGood g ≡ true ↔ WfG g
-fragments-iff g = (good-wfg g, wfg-good g)
-
 -- ---- used_good
 
 module _ (ms hs : List ℕ) (first len count updated : ℕ) (a : length ms ≡ 32) (b : length hs ≡ 32) where

@@ -2,31 +2,26 @@
 use mathlib.Core.Path.{_≡_, refl, ap, sym, _∙_}
 use mathlib.Core.Bool.{Bool, true, false, not, cond}
 use mathlib.Core.List.{List, [], _∷_, _++_}
-use mathlib.Core.Logic.{_⊎_, inl, inr}
+use mathlib.Core.Logic.{inl, inr}
 use mathlib.Core.Option.{Option, none, some}
-use Prim.Native.Nat.{ℕ, _≤_}
-use native.Mathlib.Omega.{arith}
+use Prim.Native.Nat.{ℕ}
 use lib.Dec.{eqb}
-use Rattle.packet.specs.declared.Record.{Record}
-use Rattle.model.specs.State.{State, withTime}
-use Rattle.model.specs.Refusals.{Refusal, notWellFormed, outOfRange, timeBelow, channelAbsent, tableFull, oldVersion, cumulativeOff, lastOnReliable, lastNotExpected, lastOff, beyondGroup, overLimit, listTooShort, number, left}
+use Rattle.lists.proofs.Pad.{never}
+use Rattle.model.specs.State.{State}
+use Rattle.model.specs.Refusals.{Refusal, notWellFormed, outOfRange, timeBelow, channelAbsent, tableFull, oldVersion, cumulativeOff, lastOnReliable, lastNotExpected, lastOff, beyondGroup, overLimit, listTooShort, number}
 use Rattle.model.specs.Calls as calls
 use Rattle.model.specs.Calls.{Call, Answer, refused, delivered, undelivered, found, noBundle, bundle, prepared, done, resends, held, prefixIs, lent}
-use Rattle.model.specs.Port.{Reply, reply, answerOne, recordStages, play}
-use Rattle.agreement.specs.Effects.{among, stagesOf}
-use Rattle.agreement.specs.When.{Row, row, rowsOf, Decides, Passes, refusalIn, Iff}
+use Rattle.model.specs.Port.{reply, answerOne}
+use Rattle.agreement.specs.When.{Decides, Passes, refusalIn}
 use Rattle.agreement.proofs.Effects.{effects}
 use Rattle.agreement.proofs.When.{exactly-when}
 use Rattle.table.specs.declared.Table.{Table}
 use Rattle.table.specs.Table.{abs, repr, wfb}
 use Rattle.table.proofs.Test.{test-wf}
 use Rattle.calls.specs.Answers.{codeOf}
-use Rattle.calls.specs.Calls.{Outcome, tableReply, called}
+use Rattle.calls.specs.Calls.{Outcome, called}
 use Rattle.calls.proofs.Called.{called-refused, called-granted}
 use Rattle.histories.specs.Refusals.{tableRows, Answered, Changed}
-
-never : {P : Type 0} → _≡_ {A = ℕ} 0 1 → P
-never z = absurd (omega arith)
 
 -- ---- a number tells its refusal
 

@@ -1,33 +1,32 @@
 -- Every history of tables from a new one is the model's history, put into tables: so the demands hold of the public calls. Assumes nothing.
 use mathlib.Core.Path.{_≡_, refl, ap, sym, subst, _∙_}
-use mathlib.Core.Bool.{Bool, true, false}
+use mathlib.Core.Bool.{Bool, true}
 use mathlib.Core.List.{List, [], _∷_, _++_, map, reverse}
 use mathlib.Core.Option.{some}
-use Prim.Native.Nat.{ℕ, _+_, _<_}
-use lib.ListN.{length}
+use Prim.Native.Nat.{ℕ, _+_}
 use Rattle.lists.specs.Pad.{allb}
 use Rattle.seq.specs.Num.{wrap}
 use Rattle.packet.specs.Data.{Range, packet}
 use Rattle.model.specs.State.{State, new, newProtocol}
 use Rattle.model.specs.Group.{group}
-use Rattle.model.specs.Calls.{Call, accept, acceptOut, channel, nextBundle, prepare, acksWritten, takeResends, holds, lastAcceptedPrefix, resetPrefixOffset, transferPrefixOffset, Answer}
-use Rattle.model.specs.Port.{Reply, reply, answerOne}
-use Rattle.model.specs.History.{run, rustRun, allInDomain}
+use Rattle.model.specs.Calls.{Call}
+use Rattle.model.specs.Port.{reply}
+use Rattle.model.specs.History.{run, rustRun}
 use Rattle.model.specs.Wellformed.{wellFormed}
-use Rattle.order.specs.Sent.{Arr, pkt, missing, Near, sentBefore}
+use Rattle.order.specs.Sent.{Arrival, sentAs, missing, Near, sentBefore}
 use Rattle.packet.specs.declared.Record.{Record}
-use Rattle.order.specs.OnKey.{isReliable, grantedBy, granted, handedBy, handedOut, waiting, expectedOf}
+use Rattle.order.specs.OnKey.{isReliable, grantedBy, granted, handedIn, handedBy, handedOut, waiting, expectedOf}
 use Rattle.order.proofs.Demand3.{demand3}
 use Rattle.agreement.specs.Demand2.{inside}
 use Rattle.agreement.proofs.Agreement.{demand2}
 use Rattle.kept.proofs.Kept.{new-good, kept, kept-run}
 use Rattle.table.specs.declared.Table.{Table}
-use Rattle.table.specs.Table.{abs, repr, wfb, Wf}
-use Rattle.table.proofs.Places.{abs-repr, repr-wf, new-wf}
-use Rattle.table.proofs.Test.{test-wf, wf-test, Meets, meets-parts}
+use Rattle.table.specs.Table.{abs, repr, wfb}
+use Rattle.table.proofs.Places.{abs-repr, repr-wf}
+use Rattle.table.proofs.Test.{test-wf, wf-test, meets-parts}
 use Rattle.calls.specs.Calls.{Outcome, tableReply, called}
-use Rattle.calls.proofs.Called.{called-refused, called-granted}
-use Rattle.histories.specs.Tables.{Run, answering, runT, grantedT, handedIn, handedT}
+use Rattle.calls.proofs.Called.{called-granted}
+use Rattle.histories.specs.Tables.{Run, answering, runT, grantedT, handedT}
 
 -- a table in the one form of a well-formed state stands for that state, and passes the test
 back : (s : State) → wellFormed s ≡ true → abs (repr s) ≡ s
@@ -46,10 +45,6 @@ kept-table e t w =
     let v = test-wf t w in
     let q : called e t ≡ tableReply (reply e (abs t)) = called-granted e t w in
     subst (λ (o : Outcome). wfb (o .table) ≡ true) (sym q) (passes (reply e (abs t) .state) (kept e (abs t) (v .meets)))
-
--- a table that is not well formed is answered 1 and stays, whatever the call
-pub refused-table : (e : Call) (t : Table) → wfb t ≡ false → called e t ≡ record { answer = answerOne e; table = t }
-refused-table e t w = called-refused e t w
 
 -- a whole history
 pub runs : (es : List Call) (s : State) → wellFormed s ≡ true → runT es (repr s) ≡ record { answers = run es s .answers; table = repr (run es s .state) }
@@ -88,30 +83,16 @@ granted-is a i (e ∷ es) s w =
     ∙ ap (λ (o : Outcome). grantedBy a i e s ++ grantedT a i es (o .table)) (call-is e s w)
     ∙ ap (λ (l : List Record). grantedBy a i e s ++ l) (granted-is a i es (reply e s .state) (kept e s w))
 
-handed-in : (a i : ℕ) (e : Call) (s : State) → handedIn a i e (reply e s .answer) ≡ handedBy a i e s
-handed-in a i (accept t b rs) s = refl
-handed-in a i (acceptOut t b r) s = refl
-handed-in a i (channel k) s = refl
-handed-in a i (nextBundle k l) s = refl
-handed-in a i (prepare t k reliable hs) s = refl
-handed-in a i (acksWritten k ns) s = refl
-handed-in a i (takeResends t timeout giveUp l) s = refl
-handed-in a i (holds h) s = refl
-handed-in a i lastAcceptedPrefix s = refl
-handed-in a i resetPrefixOffset s = refl
-handed-in a i transferPrefixOffset s = refl
-
 handed-is : (a i : ℕ) (es : List Call) (s : State) → wellFormed s ≡ true → handedT a i es (repr s) ≡ handedOut a i es s
 unfolding handedT handedOut
 handed-is a i [] s w = refl
 handed-is a i (e ∷ es) s w =
     ap (λ (o : Outcome). handedIn a i e (o .answer) ++ handedT a i es (o .table)) (call-is e s w)
-    ∙ ap (λ (l : List (List ℕ)). l ++ handedT a i es (repr (reply e s .state))) (handed-in a i e s)
     ∙ ap (λ (l : List (List ℕ)). handedBy a i e s ++ l) (handed-is a i es (reply e s .state) (kept e s w))
 
-pub demand3-tables : (f : Bool) (es : List Call) (a i : ℕ) (s : ℕ → Range) (h : List Arr)
+pub demand3-tables : (f : Bool) (es : List Call) (a i : ℕ) (s : ℕ → Range) (h : List Arrival)
     → allb isReliable (grantedT a i es (repr (new f))) ≡ true
-    → map packet (grantedT a i es (repr (new f))) ≡ map (pkt s) (reverse h)
+    → map packet (grantedT a i es (repr (new f))) ≡ map (sentAs s) (reverse h)
     → Near h
     → (handedT a i es (repr (new f)) ++ waiting a i (abs (runT es (repr (new f)) .table)) ≡ group (sentBefore s h (missing h)) .made) × (expectedOf a i (abs (runT es (repr (new f)) .table)) ≡ wrap (missing h))
 demand3-tables f es a i s h w b n =

@@ -1,6 +1,6 @@
 -- 01's refusal table over concrete tables: of every public call, by the very functions that their contracts cite.
 use mathlib.Core.Path.{_≡_}
-use mathlib.Core.Bool.{Bool, true, false, not}
+use mathlib.Core.Bool.{true, false, not}
 use mathlib.Core.List.{List, [], _∷_, _++_}
 use Prim.Native.Nat.{ℕ}
 use Rattle.packet.specs.declared.Record.{Record}

@@ -1,10 +1,9 @@
 -- Histories of concrete tables: runs of the very functions that the contracts of the public calls cite.
-use mathlib.Core.Bool.{cond}
 use mathlib.Core.List.{List, [], _∷_, _++_}
 use Prim.Native.Nat.{ℕ}
 use Rattle.packet.specs.declared.Record.{Record}
-use Rattle.model.specs.Calls.{Call, accept, acceptOut, channel, nextBundle, prepare, acksWritten, takeResends, holds, lastAcceptedPrefix, resetPrefixOffset, transferPrefixOffset, Answer}
-use Rattle.order.specs.OnKey.{names, bundleIn, grantedBy}
+use Rattle.model.specs.Calls.{Call, Answer}
+use Rattle.order.specs.OnKey.{grantedBy, handedIn}
 use Rattle.table.specs.declared.Table.{Table}
 use Rattle.table.specs.Table.{abs}
 use Rattle.calls.specs.Calls.{called}
@@ -26,19 +25,6 @@ runT (e ∷ es) t = answering (called e t .answer) (runT es (called e t .table))
 unfoldable pub grantedT : ℕ → ℕ → List Call → Table → List Record
 grantedT a i [] t = []
 grantedT a i (e ∷ es) t = grantedBy a i e (abs t) ++ grantedT a i es (called e t .table)
-
-abbrev pub handedIn : ℕ → ℕ → Call → Answer → List (List ℕ)
-handedIn a i (accept t b rs) x = []
-handedIn a i (acceptOut t b r) x = []
-handedIn a i (channel k) x = []
-handedIn a i (nextBundle k l) x = cond (names a i k) (bundleIn x) []
-handedIn a i (prepare t k reliable hs) x = []
-handedIn a i (acksWritten k ns) x = []
-handedIn a i (takeResends t timeout giveUp l) x = []
-handedIn a i (holds h) x = []
-handedIn a i lastAcceptedPrefix x = []
-handedIn a i resetPrefixOffset x = []
-handedIn a i transferPrefixOffset x = []
 
 unfoldable pub handedT : ℕ → ℕ → List Call → Table → List (List ℕ)
 handedT a i [] t = []

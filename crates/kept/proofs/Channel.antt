@@ -6,8 +6,8 @@ use native.Mathlib.Omega.{arith}
 use lib.Dec.{ltb, eqb}
 use borrow.Author.Tests.{not-true}
 use Rattle.lists.specs.Pad.{allb}
-use Rattle.lists.proofs.Pad.{and-left, and-right}
-use Rattle.lists.proofs.Tests.{never, and-both, and-7, and-8, allb-none}
+use Rattle.lists.proofs.Pad.{never, and-left, and-right}
+use Rattle.lists.proofs.Tests.{and-both, and-7, and-8, allb-none}
 use Rattle.seq.specs.declared.Order.{Order}
 use Rattle.seq.specs.declared.Order.the-variants.{Less, Equal, Greater}
 use Rattle.seq.specs.Num.{legal, add, sub, cmp, later}

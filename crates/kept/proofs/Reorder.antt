@@ -1,18 +1,16 @@
 -- An on-channel's reliable side stays well formed under any legal packet: "Distances of buffered numbers from expected strictly
 -- increase within 1 to 2^27; the contiguous queue is consecutive and ends at expected - 1". Assumes nothing.
-use mathlib.Core.Path.{_≡_, refl, ap, _∙_}
+use mathlib.Core.Path.{_≡_, refl, ap}
 use mathlib.Core.Bool.{Bool, true, false, cond, _&&_}
 use mathlib.Core.List.{List, [], _∷_, _++_}
-use Prim.Native.Nat.{ℕ, zero, suc, _+_, _≤_, _<_}
+use Prim.Native.Nat.{ℕ, suc, _+_, _≤_, _<_}
 use native.Mathlib.Omega.{arith}
-use native.Mathlib.Nat.{add-suc, add-zero}
 use native.Mathlib.Decide.{decLt}
 use lib.Dec.{ltb, leb, eqb}
-use lib.ListN.{length, getD, length-append, List·getD-append}
-use lib.Seq.{getD-append-add, getD-append-seam, take-append-seam, drop-append-seam, append-snoc}
+use lib.ListN.{length, length-append}
 use borrow.Author.Tests.{lt-ltb, le-ltb, le-leb, eq-eqb, ne-eqb, eqb-true, eqb-false, ltb-true, ltb-false, leb-true}
 use Rattle.lists.specs.Pad.{allb}
-use Rattle.lists.proofs.Pad.{and-left, and-right}
+use Rattle.lists.proofs.Pad.{never, and-left, and-right}
 use Rattle.lists.proofs.Tests.{and-both, allb-head, allb-tail, allb-snoc, allb-behind, allb-parts}
 use Rattle.seq.specs.declared.Order.{Order}
 use Rattle.seq.specs.declared.Order.the-variants.{Less, Equal, Greater}
@@ -65,8 +63,8 @@ unfolding cmp
 greater-dist a e ha he h = at (eqb a e) refl (ltb 0x800_0000 (dist a e)) refl h
   where
     at : (t : Bool) → eqb a e ≡ t → (u : Bool) → ltb 0x800_0000 (dist a e) ≡ u → answer t u ≡ Greater → (0 < dist a e) × (dist a e ≤ 0x800_0000)
-    at true q u r z = absurd (let y : _≡_ {A = ℕ} 0 1 = cc in omega arith)
-    at false q true r z = absurd (let y : _≡_ {A = ℕ} 0 1 = cc in omega arith)
+    at true q u r z = never (cc)
+    at false q true r z = never (cc)
     at false q false r z = let n : a ≡ e → ⊥ = eqb-false a e q in let l : dist a e ≤ 0x800_0000 = ltb-false _ _ r in (omega arith, l)
 
 equal-same : (a b : ℕ) → cmp a b ≡ Equal → a ≡ b
@@ -75,8 +73,8 @@ equal-same a b h = at (eqb a b) refl (ltb 0x800_0000 (dist a b)) h
   where
     at : (t : Bool) → eqb a b ≡ t → (u : Bool) → answer t u ≡ Equal → a ≡ b
     at true q u z = eqb-true a b q
-    at false q true z = absurd (let y : _≡_ {A = ℕ} 0 1 = cc in omega arith)
-    at false q false z = absurd (let y : _≡_ {A = ℕ} 0 1 = cc in omega arith)
+    at false q true z = never (cc)
+    at false q false z = never (cc)
 
 -- ---- the buffer
 

@@ -7,9 +7,9 @@ use lib.Dec.{leb, eqb}
 use lib.ListN.{length, length-map}
 use borrow.Author.Tests.{leb-true, eqb-true, eq-eqb}
 use Rattle.lists.specs.Pad.{allb}
-use Rattle.lists.proofs.Pad.{and-left, and-right}
+use Rattle.lists.proofs.Pad.{never, and-left, and-right}
 use Rattle.lists.proofs.Find.{allb-put, length-put-le, find-key}
-use Rattle.lists.proofs.Tests.{never, and-both, and-5, eqb-turn, allb-none, allb-weaken, allb-find}
+use Rattle.lists.proofs.Tests.{and-both, and-5, eqb-turn, allb-none, allb-weaken, allb-find}
 use Rattle.lists.proofs.Maps.{allb-map-so}
 use Rattle.seq.specs.Num.{legal}
 use Rattle.model.specs.State.{OffChannel, OnChannel, Protocol, State, new, newOff, newOn, isOff, isOn, hasOff, hasOn, offAt, onAt, putOff, putOn}

@@ -10,7 +10,7 @@ use lib.Dec.{leb}
 use lib.ListN.{length, length-append}
 use Rattle.lists.specs.Pad.{removeAt, allb}
 use Rattle.lists.specs.Find.{has, findBy, putBy, removeFirst, keepBy}
-use Rattle.lists.proofs.Pad.{and-left, and-right}
+use Rattle.lists.proofs.Pad.{never, and-left, and-right}
 
 module _ {A : Type 0} where
   -- what was put is found
@@ -33,28 +33,10 @@ module _ {A : Type 0} where
       at true p ih = rw (h, k x p)
       at false p ih = rw ih
 
-  pub has-put : (f : A → Bool) (e : A) (xs : List A) → f e ≡ true → has f (putBy f e xs) ≡ true
-  unfolding has putBy
-  has-put f e [] h = rw h
-  has-put f e (x ∷ xs) h = at (f x) refl (has-put f e xs h)
-    where
-      at : (t : Bool) → f x ≡ t → has f (putBy f e xs) ≡ true → has f (cond t (e ∷ xs) (x ∷ putBy f e xs)) ≡ true
-      at true p ih = rw h
-      at false p ih = rw (p, ih)
-
-  pub has-put-other : (f g : A → Bool) (e : A) (xs : List A) → g e ≡ false → ((x : A) → f x ≡ true → g x ≡ false) → has g (putBy f e xs) ≡ has g xs
-  unfolding has putBy
-  has-put-other f g e [] h k = rw h
-  has-put-other f g e (x ∷ xs) h k = at (f x) refl (has-put-other f g e xs h k)
-    where
-      at : (t : Bool) → f x ≡ t → has g (putBy f e xs) ≡ has g xs → has g (cond t (e ∷ xs) (x ∷ putBy f e xs)) ≡ has g (x ∷ xs)
-      at true p ih = rw (h, k x p)
-      at false p ih = rw ih
-
   -- an element that is found passes the test
   pub find-passes : (f : A → Bool) (z : A) (xs : List A) → has f xs ≡ true → f (findBy f z xs) ≡ true
   unfolding findBy has
-  find-passes f z [] h = absurd (let n : _≡_ {A = ℕ} 0 1 = cc in omega arith)
+  find-passes f z [] h = never (cc)
   find-passes f z (x ∷ xs) h = at (f x) refl h (λ q. find-passes f z xs q)
     where
       at : (t : Bool) → f x ≡ t → (t || has f xs) ≡ true → (has f xs ≡ true → f (findBy f z xs) ≡ true) → f (cond t x (findBy f z xs)) ≡ true
@@ -67,23 +49,13 @@ module _ {A : Type 0} where
   find-absent f z (x ∷ xs) h = at (f x) h (λ q. find-absent f z xs q)
     where
       at : (t : Bool) → (t || has f xs) ≡ false → (has f xs ≡ false → findBy f z xs ≡ z) → cond t x (findBy f z xs) ≡ z
-      at true q ih = absurd (let n : _≡_ {A = ℕ} 0 1 = cc in omega arith)
-      at false q ih = ih q
-
-  -- where one is there, the element for none does not matter
-  pub find-here : (f : A → Bool) (z w : A) (xs : List A) → has f xs ≡ true → findBy f z xs ≡ findBy f w xs
-  unfolding findBy has
-  find-here f z w [] h = absurd (let n : _≡_ {A = ℕ} 0 1 = cc in omega arith)
-  find-here f z w (x ∷ xs) h = at (f x) h (λ q. find-here f z w xs q)
-    where
-      at : (t : Bool) → (t || has f xs) ≡ true → (has f xs ≡ true → findBy f z xs ≡ findBy f w xs) → cond t x (findBy f z xs) ≡ cond t x (findBy f w xs)
-      at true q ih = refl
+      at true q ih = never (cc)
       at false q ih = ih q
 
   -- the element found, put back, changes nothing
   pub put-found : (f : A → Bool) (z : A) (xs : List A) → has f xs ≡ true → putBy f (findBy f z xs) xs ≡ xs
   unfolding findBy has putBy
-  put-found f z [] h = absurd (let n : _≡_ {A = ℕ} 0 1 = cc in omega arith)
+  put-found f z [] h = never (cc)
   put-found f z (x ∷ xs) h = at (f x) h (λ q. put-found f z xs q)
     where
       at : (t : Bool) → (t || has f xs) ≡ true → (has f xs ≡ true → putBy f (findBy f z xs) xs ≡ xs) → cond t (cond t x (findBy f z xs) ∷ xs) (x ∷ putBy f (cond t x (findBy f z xs)) xs) ≡ x ∷ xs
@@ -102,7 +74,7 @@ module _ {A : Type 0} where
 
   pub length-put-here : (f : A → Bool) (e : A) (xs : List A) → has f xs ≡ true → length (putBy f e xs) ≡ length xs
   unfolding has putBy
-  length-put-here f e [] h = absurd (let n : _≡_ {A = ℕ} 0 1 = cc in omega arith)
+  length-put-here f e [] h = never (cc)
   length-put-here f e (x ∷ xs) h = at (f x) h (λ q. length-put-here f e xs q)
     where
       at : (t : Bool) → (t || has f xs) ≡ true → (has f xs ≡ true → length (putBy f e xs) ≡ length xs) → length (cond t (e ∷ xs) (x ∷ putBy f e xs)) ≡ suc (length xs)
@@ -115,7 +87,7 @@ module _ {A : Type 0} where
   put-new f e (x ∷ xs) h = at (f x) h (λ q. put-new f e xs q)
     where
       at : (t : Bool) → (t || has f xs) ≡ false → (has f xs ≡ false → putBy f e xs ≡ xs ++ (e ∷ [])) → cond t (e ∷ xs) (x ∷ putBy f e xs) ≡ x ∷ (xs ++ (e ∷ []))
-      at true q ih = absurd (let n : _≡_ {A = ℕ} 0 1 = cc in omega arith)
+      at true q ih = never (cc)
       at false q ih = ap (λ (l : List A). x ∷ l) (ih q)
 
   -- where all pass a test, all do after one that passes it was put
@@ -133,7 +105,7 @@ module _ {A : Type 0} where
       one false q = refl
 
       at : (t u : Bool) → g x ≡ u → (u && allb g xs) ≡ true → (allb g xs ≡ true → allb g (putBy f e xs) ≡ g e) → allb g (cond t (e ∷ xs) (x ∷ putBy f e xs)) ≡ g e
-      at t false p q ih = absurd (let n : _≡_ {A = ℕ} 0 1 = cc in omega arith)
+      at t false p q ih = never (cc)
       at true true p q ih = one (g e) q
       at false true p q ih = rw (p, ih q)
 
@@ -213,7 +185,7 @@ module _ {A : Type 0} where
   -- one less where one is there
   pub length-remove-here : (g : A → Bool) (xs : List A) → has g xs ≡ true → suc (length (removeFirst g xs)) ≡ length xs
   unfolding has removeFirst
-  length-remove-here g [] h = absurd (let n : _≡_ {A = ℕ} 0 1 = cc in omega arith)
+  length-remove-here g [] h = never (cc)
   length-remove-here g (x ∷ xs) h = at (g x) h (λ q. length-remove-here g xs q)
     where
       at : (t : Bool) → (t || has g xs) ≡ true → (has g xs ≡ true → suc (length (removeFirst g xs)) ≡ length xs) → suc (length (cond t xs (x ∷ removeFirst g xs))) ≡ suc (length xs)

@@ -7,7 +7,7 @@ use native.Mathlib.Omega.{arith}
 use lib.ListN.{length, getD, set, take, replicate}
 use Rattle.lists.specs.Pad.{pad, removeAt, allb}
 use Rattle.lists.specs.Find.{has}
-use Rattle.lists.proofs.Pad.{and-left, and-right}
+use Rattle.lists.proofs.Pad.{never, and-left, and-right}
 use Rattle.lists.proofs.Tests.{allb-weaken}
 
 module _ {A B : Type 0} where
@@ -76,7 +76,7 @@ module _ {A : Type 0} where
 -- the beginning of a mapped list, where the whole is another mapped list
 pub front-map : (X Y Z : Type 0) (f : X → Z) (g : Y → Z) (xs : List X) (ys : List Z) (zs : List Y) → map f xs ++ ys ≡ map g zs → map f xs ≡ map g (take (length xs) zs)
 front-map X Y Z f g [] ys zs e = refl
-front-map X Y Z f g (x ∷ xs) ys [] e = absurd (let n : _≡_ {A = ℕ} 0 1 = cc in omega arith)
+front-map X Y Z f g (x ∷ xs) ys [] e = never (cc)
 front-map X Y Z f g (x ∷ xs) ys (z ∷ zs) e =
     let p : f x ≡ g z = cc in
     let q : map f xs ++ ys ≡ map g zs = cc in

@@ -1,18 +1,22 @@
 -- Laws of `pad`, `removeAt`, `insertAt`, and of an array that is rewritten place by place. Any element type. Assumes nothing.
 use mathlib.Core.Path.{_≡_, refl, sym, ap, subst, _∙_}
-use mathlib.Core.List.{List, [], _∷_, _++_, map, append-nil}
+use mathlib.Core.List.{List, [], _∷_, _++_, map}
 use Prim.Native.Nat.{ℕ, zero, suc, _+_, _-_, _≤_, _<_, zero-le, suc-le-suc}
-use mathlib.Core.Bool.{Bool, true, false, _&&_}
+use mathlib.Core.Bool.{Bool, true, false, _&&_, false≢true}
 use native.Mathlib.Nat.{le-of-suc-le-suc, not-suc-le-zero}
 use native.Mathlib.Omega.{arith}
 use native.Mathlib.Numerals.{add-one}
-use lib.ListN.{length, getD, set, take, drop, replicate, length-map, List·getD-eq-default, List·getD-map, drop-of-length-le}
-use lib.Seq.{ext-getD, drop-cons, take-all}
+use lib.ListN.{length, getD, set, take, drop, replicate, length-map, List·getD-eq-default, drop-of-length-le}
+use lib.Seq.{ext-getD, drop-cons}
 use Rattle.lists.specs.Pad.{pad, removeAt, insertAt, allb}
 
 -- what owning an array of structs tells of its length, for `search`: the relation stands at `map f` of the list
 pub length-of-map : (X Y : Type 0) (f : X → Y) (l : List X) (n : ℕ) → length (map f l) ≡ n → length l ≡ n
 length-of-map X Y f l n p = sym (length-map l f) ∙ p
+
+-- what cannot be
+pub never : {P : Type 0} → false ≡ true → P
+never e = absurd (false≢true e)
 
 pub and-left : (a b : Bool) → a && b ≡ true → a ≡ true
 and-left true b q = refl
@@ -20,7 +24,7 @@ and-left false b q = q
 
 pub and-right : (a b : Bool) → a && b ≡ true → b ≡ true
 and-right true b q = q
-and-right false b q = let z : _≡_ {A = ℕ} 0 1 = cc in absurd (omega arith)
+and-right false b q = never q
 
 module _ {A : Type 0} where
   pub getD-default : (l : List A) (i : ℕ) (d e : A) → i < length l → getD l i d ≡ getD l i e
@@ -176,13 +180,6 @@ module _ {A : Type 0} where
   length-insertAt zero e xs = refl
   length-insertAt (suc i) e [] = refl
   length-insertAt (suc i) e (x ∷ xs) = ap suc (length-insertAt i e xs)
-
-  pub insertAt-out : (i : ℕ) (e : A) (xs : List A) → length xs ≤ i → insertAt i e xs ≡ xs ++ e ∷ []
-  unfolding insertAt
-  insertAt-out zero e [] h = refl
-  insertAt-out zero e (x ∷ xs) h = absurd (not-suc-le-zero h)
-  insertAt-out (suc i) e [] h = refl
-  insertAt-out (suc i) e (x ∷ xs) h = ap (λ (r : List A). x ∷ r) (insertAt-out i e xs (le-of-suc-le-suc h))
 
   pub getD-insertAt-lo : (i : ℕ) (e : A) (xs : List A) (k : ℕ) (z : A) → k < i → i ≤ length xs → getD (insertAt i e xs) k z ≡ getD xs k z
   unfolding insertAt

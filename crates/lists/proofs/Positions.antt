@@ -8,6 +8,7 @@ use native.Mathlib.Omega.{arith}
 use native.Mathlib.Numerals.{add-one}
 use lib.ListN.{length, getD, set, take, drop, drop-of-length-le, length-take}
 use lib.Seq.{drop-cons, take-suc, getD-take}
+use Rattle.lists.proofs.Pad.{never}
 use Rattle.lists.specs.Pad.{removeAt}
 use mathlib.Core.Option.{Option, none, some}
 use Rattle.lists.specs.Find.{later, position, has, findBy, putBy, removeFirst, slotOf}
@@ -22,7 +23,7 @@ shifted-later i none = refl
 shifted-later i (some k) = let e : i + suc k ≡ i + 1 + k = omega arith in ap (λ (n : ℕ). some n) e
 
 now-some : (o : Option ℕ) (i : ℕ) → later o ≡ some i → (k : ℕ) × (o ≡ some k) × (suc k ≡ i)
-now-some none i p = let z : _≡_ {A = ℕ} 0 1 = cc in absurd (omega arith)
+now-some none i p = never (cc)
 now-some (some k) i p = (k, refl, cc)
 
 module _ {A : Type 0} where
@@ -54,7 +55,7 @@ module _ {A : Type 0} where
 
   pub stands : (f : A → Bool) (xs : List A) (i : ℕ) → position f xs ≡ some i → Stands f xs i
   unfolding position has findBy putBy removeFirst removeAt
-  stands f [] i p = let z : _≡_ {A = ℕ} 0 1 = cc in absurd (omega arith)
+  stands f [] i p = never (cc)
   stands f (x ∷ xs) i p = at (f x) refl p (λ k q. stands f xs k q)
     where
       on : (k : ℕ) → f x ≡ false → Stands f xs k → Stands f (x ∷ xs) (suc k)
@@ -83,10 +84,10 @@ module _ {A : Type 0} where
     where
       off : (o : Option ℕ) → later o ≡ none → o ≡ none
       off none q = refl
-      off (some k) q = let z : _≡_ {A = ℕ} 0 1 = cc in absurd (omega arith)
+      off (some k) q = never (cc)
 
       at : (t : Bool) → cond t (some 0) (later (position f xs)) ≡ none → (position f xs ≡ none → has f xs ≡ false) → (t || has f xs) ≡ false
-      at true q ih = let z : _≡_ {A = ℕ} 0 1 = cc in absurd (omega arith)
+      at true q ih = never (cc)
       at false q ih = ih (off (position f xs) q)
 
   -- ---- a search from the front, at place i: hit, and one place on

@@ -10,20 +10,9 @@ use Rattle.lists.specs.Pad.{pad}
 use Rattle.lists.specs.Find.{has, findBy, putBy, slotOf}
 use borrow.Author.Tests.{ltb-true, ltb-false, lt-ltb, le-leb, lt-leb, eq-eqb, ne-eqb}
 use lib.Dec.{ltb, leb, eqb}
-
-never : {P : Type 0} → _≡_ {A = ℕ} 0 1 → P
-never z = absurd (omega arith)
+use Rattle.lists.proofs.Pad.{never}
 
 module _ {A : Type 0} where
-  pub slot-le : (f : A → Bool) (xs : List A) → slotOf f xs ≤ length xs
-  unfolding slotOf
-  slot-le f [] = omega arith
-  slot-le f (x ∷ xs) = at (f x) (slot-le f xs)
-    where
-      at : (t : Bool) → slotOf f xs ≤ length xs → cond t 0 (suc (slotOf f xs)) ≤ suc (length xs)
-      at true ih = omega arith
-      at false ih = omega arith
-
   -- there is one exactly where its place is below the length
   pub slot-has : (f : A → Bool) (xs : List A) → has f xs ≡ true → slotOf f xs < length xs
   unfolding slotOf has
@@ -132,14 +121,6 @@ module _ {A B : Type 0} where
           → set (g x ∷ pad n z (map g xs)) (cond t 0 (suc (slotOf f xs))) (g e) ≡ pad (suc n) z (map g (cond t (e ∷ xs) (x ∷ putBy f e xs)))
       at true q ih = refl
       at false q ih = ap (λ (l : List B). g x ∷ l) (ih (omega arith))
-
-  -- the list of an array of forms is the list, where the form is undone by a
-  pub take-map-pad : (g : A → B) (a : B → A) (n : ℕ) (z : B) (xs : List A) → ((x : A) → a (g x) ≡ x) → length xs ≤ n → map a (take (length xs) (pad n z (map g xs))) ≡ xs
-  unfolding pad
-  take-map-pad g a zero z [] h k = refl
-  take-map-pad g a (suc n) z [] h k = refl
-  take-map-pad g a zero z (x ∷ xs) h k = absurd (omega arith)
-  take-map-pad g a (suc n) z (x ∷ xs) h k = rw (h x, take-map-pad g a n z xs h (omega arith))
 
   -- looking in a list of forms is looking in the list
   pub slot-map : (g : A → B) (f : B → Bool) (h : A → Bool) (xs : List A) → ((x : A) → f (g x) ≡ h x) → slotOf f (map g xs) ≡ slotOf h xs

@@ -4,21 +4,16 @@ use mathlib.Core.List.{List, [], _∷_, _++_}
 use Prim.Native.Nat.{ℕ, zero, suc, _+_, _-_, _≤_, _<_, zero-le, suc-le-suc}
 use mathlib.Core.Bool.{Bool, true, false, _&&_, not, cond, _||_, and-true, or-false, or-assoc}
 use native.Mathlib.Omega.{arith}
-use native.Mathlib.Numerals.{add-one}
-use lib.ListN.{length, getD, set, take, drop, drop-of-length-le}
-use lib.Seq.{drop-cons}
+use lib.ListN.{length, getD, set, take, drop}
 use Rattle.lists.specs.Pad.{removeAt, allb}
 use mathlib.Core.Option.{Option, none, some}
 use Rattle.lists.specs.Find.{position, has, findBy, putBy, removeFirst, keepBy, swapRemove, swapAt, swapRemoveFirst}
 use mathlib.Core.Logic.{_⊎_, inl, inr}
 use borrow.Author.Tests.{leb-true, leb-false, eqb-true, eqb-false, eq-eqb, ne-eqb}
 use lib.Dec.{leb, eqb}
-use Rattle.lists.proofs.Pad.{and-left, and-right}
+use Rattle.lists.proofs.Pad.{never, and-left, and-right}
 
 -- ---- truth values
-
-pub never : {P : Type 0} → false ≡ true → P
-never e = absurd (let z : _≡_ {A = ℕ} 0 1 = cc in omega arith)
 
 pub and-both : {a b : Bool} → a ≡ true → b ≡ true → a && b ≡ true
 and-both {a} {b} p q = rw (p, q)

@@ -1,8 +1,8 @@
 -- Looking for an element by a test, taking one out, putting one in: for any element type. Lists joined and numbers added up.
 use mathlib.Core.List.{List, [], _∷_, _++_}
-use mathlib.Core.Bool.{Bool, true, false, cond, _||_}
+use mathlib.Core.Bool.{Bool, false, cond, _||_}
 use mathlib.Core.Option.{Option, none, some}
-use Prim.Native.Nat.{ℕ, zero, suc, _+_, _-_}
+use Prim.Native.Nat.{ℕ, suc, _+_, _-_}
 use lib.ListN.{length, take, drop, getD, set}
 
 abbrev pub later : Option ℕ → Option ℕ

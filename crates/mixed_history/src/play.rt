@@ -35,7 +35,7 @@ fn forward_out(t: Table, step: u32) -> Table {
 
 fn find(t: Table, step: u32) -> Table {
     let k = draw::key(step);
-    let f = forward::channel(t, k);
+    let f = channels::channel(t, k);
     print::text(b"find");
     print::granted(f.code);
     let v = f.view;
@@ -103,7 +103,7 @@ fn prepare(t: Table, step: u32) -> Table {
 fn wrote(t: Table, step: u32) -> Table {
     let k = draw::key(step);
     let n = draw::names(step);
-    let d = send::acks_written(t, k, n);
+    let d = written::acks_written(t, k, n);
     print::text(b"wrote");
     print::granted(d.code);
     d.table
@@ -148,7 +148,7 @@ fn resend_short(t: Table, step: u32) -> Table {
 }
 
 fn held(t: Table, step: u32) -> Table {
-    let h = handout::holds(t, draw::pick(step, 0, 58, 1000000));
+    let h = holding::holds(t, draw::pick(step, 0, 58, 1000000));
     print::text(b"holds");
     print::granted(h.code);
     print::number(h.held);
@@ -156,7 +156,7 @@ fn held(t: Table, step: u32) -> Table {
 }
 
 fn prefix(t: Table) -> Table {
-    let p = handout::last_accepted_prefix(t);
+    let p = prefixes::last_accepted_prefix(t);
     print::text(b"prefix");
     print::granted(p.code);
     print::number(p.prefix);
@@ -164,14 +164,14 @@ fn prefix(t: Table) -> Table {
 }
 
 fn reset(t: Table) -> Table {
-    let d = handout::reset_prefix_offset(t);
+    let d = prefixes::reset_prefix_offset(t);
     print::text(b"reset");
     print::granted(d.code);
     d.table
 }
 
 fn transfer(t: Table) -> Table {
-    let d = handout::transfer_prefix_offset_from_last_received(t);
+    let d = prefixes::transfer_prefix_offset_from_last_received(t);
     print::text(b"transfer");
     print::granted(d.code);
     d.table

@@ -6,17 +6,18 @@ use Prim.Native.Nat.{ℕ, zero, suc, _≤_, _<_}
 use native.Mathlib.Omega.{arith}
 use lib.Dec.{ltb, eqb}
 use lib.ListN.{length, drop, length-drop}
+use Rattle.lists.proofs.Pad.{never}
 use Rattle.seq.specs.Num.{dist}
 use Rattle.packet.specs.declared.Packet.{Packet}
 use Rattle.packet.specs.Data.{Range, noRange, range, rangeOf}
 use Rattle.model.specs.Group.{Step, stop, go, enough, first, front, step, before, onStep, groupN, group, span}
 
-pub stops : {A : Type 0} {bs : List (List ℕ)} {r : List Packet} → stop ≡ go bs r → A
-stops e = let z : _≡_ {A = ℕ} 0 1 = cc in absurd (omega arith)
+pub never-goes : {A : Type 0} {bs : List (List ℕ)} {r : List Packet} → stop ≡ go bs r → A
+never-goes e = never (cc)
 
 -- a step takes at least one packet
 enough-less : (c : Bool) (f l n : ℕ) (p : Packet) (q : List Packet) {bs : List (List ℕ)} {r : List Packet} → enough c f l (suc n) (p ∷ q) ≡ go bs r → length r ≤ length q
-enough-less true f l n p q e = stops e
+enough-less true f l n p q e = never-goes e
 enough-less false f l n p q {bs} {r} e =
     let d : drop n q ≡ r = cc in
     omega (arith, length-drop n q, ap length d)
@@ -35,7 +36,7 @@ front-less (range f l) p q e = first-less (eqb (p .number) f) f l p q e
 
 pub step-less : (q : List Packet) {bs : List (List ℕ)} {r : List Packet} → step q ≡ go bs r → length r < length q
 unfolding step
-step-less [] e = stops e
+step-less [] e = never-goes e
 step-less (p ∷ q) {bs} {r} e = omega (arith, front-less (rangeOf p) p q e)
 
 -- any count from the length on gives the same
@@ -59,7 +60,7 @@ group-stop (p ∷ q) e = rw e
 
 pub group-go : (q : List Packet) {bs : List (List ℕ)} {r : List Packet} → step q ≡ go bs r → group q ≡ before bs (group r)
 unfolding group groupN step
-group-go [] e = stops e
+group-go [] e = never-goes e
 group-go (p ∷ q) {bs} {r} e =
     let h : length r ≤ length q = omega (arith, step-less (p ∷ q) e) in
     rw e (ap (before bs) (same-fuel (length q) (length r) r h (omega arith)))

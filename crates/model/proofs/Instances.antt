@@ -2,8 +2,9 @@
 -- Assumes nothing.
 use mathlib.Core.Path.{_≡_, refl}
 use mathlib.Core.Bool.{true, false}
-use mathlib.Core.List.{List, [], _∷_, map}
-use Prim.Native.Nat.{ℕ}
+use mathlib.Core.List.{List, [], _∷_, _++_, map}
+use Prim.Native.Nat.{ℕ, zero, suc}
+use lib.ListN.{drop}
 use Rattle.lists.specs.Pad.{pad, allb}
 use Rattle.lists.specs.Find.{position, has, findBy, putBy, removeFirst, keepBy, swapRemove, joined}
 use Rattle.seq.specs.Num.{cmp}
@@ -108,6 +109,18 @@ afterRefused = accept 0 7 (rec (lrs 0 ∷ []) ∷ rec (seq 0x1000_0000 ∷ []) �
 abbrev pub lastRefused : Call
 lastRefused = accept 0 7 (rec (seq 1 ∷ pkt 20 ∷ []) ∷ rec (lrs 0 ∷ []) ∷ [])
 
+-- ---- "Freed room is used again": of packets that are each a bundle the seventeenth has no place, until one bundle is handed out
+
+unfoldable pub filling : ℕ → List Call
+filling zero = []
+filling (suc n) = says 0 7 (seq n ∷ pkt n ∷ []) ∷ filling n
+
+abbrev pub seventeenth : Call
+seventeenth = says 1 7 (seq 16 ∷ pkt 16 ∷ [])
+
+abbrev pub freed : List Call
+freed = filling 16 ++ seventeenth ∷ nextBundle (offKey 7) room ∷ seventeenth ∷ []
+
 -- ---- "The Rust panics if the first that differs has no range; the port drops them"
 
 abbrev pub bareRun : List Call
@@ -150,6 +163,8 @@ pub record Instances : Type 0 where
   -- the count
   pub count-after-refused : reply afterRefused (new false) .answer ≡ delivered (okOff 7) 2
   pub count-last-refused : reply lastRefused (new false) .answer ≡ undelivered lastOff 1
+  -- a refusal for want of room, and the same packet once there is some
+  pub room-again : drop 16 (answersOf freed) ≡ undelivered overLimit 0 ∷ bundle (15 ∷ []) ∷ delivered (okOff 7) 1 ∷ []
   -- the panic, and what the port does
   pub bare-run : answersOf bareRun ≡ delivered (okOn 7 1) 1 ∷ delivered (okOn 7 2) 1 ∷ noBundle ∷ []
   pub bare-run-leaves : allInDomain bareRun (new false) ≡ false
@@ -188,7 +203,7 @@ pub record Instances : Type 0 where
   pub resends-12 : answered (takeResends 9 0 20 []) ≡ refused listTooShort
 
 pub instances : Instances
-unfolding run recordStep play count lastResult lastMade acceptS acceptOutS channelS nextBundleS prepareS acksWrittenS takeResendsS reply pad allb position has findBy putBy removeFirst keepBy swapRemove joined cmp wellMade keyMade ackCumulative ackSingles search insertOut ackInSingles takeWritten filled inPlaces addInPacket step groupN group meetsBare panicsN panics insertBuffered move reorder regroup reliableIn looseOn looseOff onRecord offRecord fitsData fits rust.acceptRecord rust.acceptOut rust.made rust.sentEntries rust.prepared rust.preparedAnswer rust.resent rust.allRows flat rustPlay rustReply anyAdded inDomain allInDomain distinct dataGood rising consecutive onGood good wellFormed
+unfolding filling run recordStep play count lastResult lastMade acceptS acceptOutS channelS nextBundleS prepareS acksWrittenS takeResendsS reply pad allb position has findBy putBy removeFirst keepBy swapRemove joined cmp wellMade keyMade ackCumulative ackSingles search insertOut ackInSingles takeWritten filled inPlaces addInPacket step groupN group meetsBare panicsN panics insertBuffered move reorder regroup reliableIn looseOn looseOff onRecord offRecord fitsData fits rust.acceptRecord rust.acceptOut rust.made rust.sentEntries rust.prepared rust.preparedAnswer rust.resent rust.allRows flat rustPlay rustReply anyAdded inDomain allInDomain distinct dataGood rising consecutive onGood good wellFormed
 instances =
     record {
       the-script = refl;
@@ -201,6 +216,7 @@ instances =
       forwarded-ack = refl;
       count-after-refused = refl;
       count-last-refused = refl;
+      room-again = refl;
       bare-run = refl;
       bare-run-leaves = refl;
       busy-well-formed = refl;

@@ -1,6 +1,6 @@
 -- The search from the end of the buffer: a packet is inserted between those that it is Greater than and those that it is Less than, and
 -- dropped beside one that it is Equal to. Assumes nothing.
-use mathlib.Core.Path.{_≡_, refl, ap, sym, _∙_}
+use mathlib.Core.Path.{_≡_, refl, _∙_}
 use mathlib.Core.List.{List, [], _∷_, _++_}
 use Prim.Native.Nat.{ℕ, zero, suc, _+_, _≤_, _<_}
 use native.Mathlib.Omega.{arith}

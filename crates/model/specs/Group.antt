@@ -1,5 +1,5 @@
 -- Bundles: fragments off the reliable path (01, "One record" 6), and the grouping of the contiguous queue (01, "Bundles from the contiguous queue").
-use mathlib.Core.Bool.{Bool, true, false, cond, _&&_, _||_}
+use mathlib.Core.Bool.{Bool, true, false, _&&_, _||_}
 use mathlib.Core.List.{List, [], _∷_, _++_, map}
 use mathlib.Core.Option.{Option, none, some}
 use Prim.Native.Nat.{ℕ, zero, suc, _+_, _-_}

@@ -1,20 +1,18 @@
 -- Histories: runs of calls from a new table, of the port and of the Rust; answers and everything handed out.
 use mathlib.Core.Bool.{Bool, true, false, cond, not, _&&_}
-use mathlib.Core.List.{List, [], _∷_, _++_}
+use mathlib.Core.List.{List, [], _∷_}
 use mathlib.Core.Option.{Option, none, some}
-use Prim.Native.Nat.{ℕ, suc}
-use lib.Dec.{eqb}
-use lib.ListN.{length}
+use Prim.Native.Nat.{ℕ}
 use Rattle.packet.specs.declared.Record.{Record}
 use Rattle.packet.specs.declared.Key.{Key}
 use Rattle.packet.specs.Data.{isSet}
-use Rattle.model.specs.State.{OffData, Protocol, State, withAcks}
-use Rattle.model.specs.Refusals.{Refusal, added}
+use Rattle.model.specs.State.{Protocol, State, withAcks}
+use Rattle.model.specs.Refusals.{added}
 use Rattle.model.specs.Acks.{takeWritten}
 use Rattle.model.specs.Record.{Outcome, granted, rejected, farFragment, bareRun}
 use Rattle.model.specs.Rust as rust
 use Rattle.model.specs.Calls.{Call, accept, acceptOut, channel, nextBundle, prepare, acksWritten, takeResends, holds, lastAcceptedPrefix, resetPrefixOffset, transferPrefixOffset, Answer, refused, delivered, undelivered, found, noBundle, bundle, prepared, done, resends, held, prefixIs}
-use Rattle.model.specs.Port.{Reply, Result, takes, refuses, Played, play, count, lastResult, deliveryAnswer, deliveryMade, onTime, reply}
+use Rattle.model.specs.Port.{Result, takes, refuses, play, count, lastResult, deliveryAnswer, deliveryMade, onTime, reply}
 use Rattle.model.specs.State.{withTime}
 
 -- ---- the port's run, oldest call first
@@ -139,18 +137,18 @@ anyAdded [] = false
 anyAdded (x ∷ xs) = cond (addedResult x) true (anyAdded xs)
 
 -- the results of a call's records, where it is a delivery that reaches them
-abbrev pub recordsOf : Call → State → List Result
-recordsOf (accept t a rs) s = cond (deliveryMade rs && onTime t s) (play t a rs (withTime t s) .results) []
-recordsOf (acceptOut t a r) s = []
-recordsOf (channel k) s = []
-recordsOf (nextBundle k l) s = []
-recordsOf (prepare t k reliable hs) s = []
-recordsOf (acksWritten k ns) s = []
-recordsOf (takeResends t timeout giveUp l) s = []
-recordsOf (holds h) s = []
-recordsOf lastAcceptedPrefix s = []
-recordsOf resetPrefixOffset s = []
-recordsOf transferPrefixOffset s = []
+abbrev pub resultsOf : Call → State → List Result
+resultsOf (accept t a rs) s = cond (deliveryMade rs && onTime t s) (play t a rs (withTime t s) .results) []
+resultsOf (acceptOut t a r) s = []
+resultsOf (channel k) s = []
+resultsOf (nextBundle k l) s = []
+resultsOf (prepare t k reliable hs) s = []
+resultsOf (acksWritten k ns) s = []
+resultsOf (takeResends t timeout giveUp l) s = []
+resultsOf (holds h) s = []
+resultsOf lastAcceptedPrefix s = []
+resultsOf resetPrefixOffset s = []
+resultsOf transferPrefixOffset s = []
 
 abbrev pub panicsNot : Rust → Bool
 panicsNot (answers a p) = true
@@ -158,7 +156,7 @@ panicsNot panicked = false
 
 -- a call that stays in the domain
 unfoldable pub inDomain : Call → State → Bool
-inDomain e s = not (addedAnswer (reply e s .answer)) && not (anyAdded (recordsOf e s)) && panicsNot (rustReply e (s .protocol))
+inDomain e s = not (addedAnswer (reply e s .answer)) && not (anyAdded (resultsOf e s)) && panicsNot (rustReply e (s .protocol))
 
 -- a history that stays in it
 unfoldable pub allInDomain : List Call → State → Bool

@@ -1,16 +1,16 @@
 -- The port: each call of 01 as a total function from state and arguments to answer and next state. The tests stand in 01's order,
 -- 1, 2, 3, 13, 4, then the Rust's own 5 to 9, then 10, 11, 12; what a refusal leaves is `left` of its stages.
-use mathlib.Core.Bool.{Bool, true, false, cond, not, _&&_, _||_}
-use mathlib.Core.List.{List, [], _∷_, _++_}
+use mathlib.Core.Bool.{Bool, true, false, _&&_, _||_}
+use mathlib.Core.List.{List, [], _∷_}
 use mathlib.Core.Option.{Option, none, some}
-use Prim.Native.Nat.{ℕ, zero, suc, _+_}
-use lib.Dec.{ltb, leb, eqb}
+use Prim.Native.Nat.{ℕ, suc}
+use lib.Dec.{leb}
 use lib.ListN.{length}
 use Rattle.packet.specs.declared.Record.{Record}
 use Rattle.packet.specs.declared.Key.{Key}
 use Rattle.packet.specs.declared.View.{View}
 use Rattle.packet.specs.Data.{isSet, isFlag, indexOf, versionOf, keyIndex, wellMade, keyMade}
-use Rattle.model.specs.State.{OffData, OffChannel, OnChannel, Protocol, State, offWith, onWith, withAcks, withPrefix, withTime, withProtocol, hasOff, hasOn, offAt, onAt, putOff, putOn}
+use Rattle.model.specs.State.{Protocol, State, offWith, onWith, withAcks, withPrefix, withTime, withProtocol, hasOff, hasOn, offAt, onAt, putOff, putOn}
 use Rattle.model.specs.Refusals.{Refusal, notWellFormed, outOfRange, timeBelow, channelAbsent, tableFull, beyondGroup, overLimit, listTooShort, Stages, left}
 use Rattle.model.specs.Acks.{takeWritten}
 use Rattle.model.specs.Record.{Outcome, granted, rejected, farFragment, bareRun, ackedOn, ackedOff}
@@ -227,6 +227,10 @@ roomSend true t k reliable hs s =
     grant (prepared (rust.preparedAnswer k reliable hs (s .protocol))) (withProtocol (rust.prepared t k reliable hs (s .protocol)) (withTime t s))
 roomSend false t k reliable hs s = refuse overLimit (timed t s)
 
+-- 2 where this is false of the key, the flag and the number of handles: "0 to 16 handles"
+abbrev pub asked : Key → ℕ → ℕ → Bool
+asked k reliable n = keyMade k && isFlag reliable && leb n 16
+
 -- the tests are: 2, 3, 13 passed
 abbrev pub send : Bool → Bool → Bool → ℕ → Key → Bool → List ℕ → State → Reply
 send false onTime here t k reliable hs s = refuse outOfRange (timed t s)
@@ -235,8 +239,7 @@ send true true false t k reliable hs s = refuse channelAbsent (timed t s)
 send true true true t k reliable hs s = roomSend (fits (rust.prepared t k reliable hs (s .protocol))) t k reliable hs s
 
 unfoldable pub prepareS : ℕ → Key → ℕ → List ℕ → State → Reply
-prepareS t k reliable hs s =
-    send (keyMade k && isFlag reliable && leb (length hs) 16) (onTime t s) (rust.hasKey k (s .protocol)) t k (isSet reliable) hs s
+prepareS t k reliable hs s = send (asked k reliable (length hs)) (onTime t s) (rust.hasKey k (s .protocol)) t k (isSet reliable) hs s
 
 -- ---- acks written: "An absent channel gives 2 for any name, 13 for an empty list"
 

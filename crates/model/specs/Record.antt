@@ -1,14 +1,13 @@
 -- One record, as the Rust treats it (01, "One record"; Rust: accept_inner), on the channel that it is for.
-use mathlib.Core.Bool.{Bool, true, false, cond}
+use mathlib.Core.Bool.{Bool, true, false}
 use mathlib.Core.List.{List, [], _∷_, _++_}
 use Prim.Native.Nat.{ℕ}
 use lib.Dec.{ltb, eqb}
 use Rattle.seq.specs.Num.{sub, observeS}
-use Rattle.packet.specs.declared.Packet.{Packet}
 use Rattle.packet.specs.declared.OutEntry.{OutEntry}
 use Rattle.packet.specs.declared.Record.{Record}
-use Rattle.packet.specs.Data.{isSet, packet, singleAcks, indexOf, versionOf}
-use Rattle.model.specs.State.{OffData, OffChannel, OnChannel, Protocol, withOut, withAcks, withBundles, offWith, onWith, withSource, withPrefix, offAt, onAt, putOff, putOn}
+use Rattle.packet.specs.Data.{isSet, packet, singleAcks, versionOf}
+use Rattle.model.specs.State.{OffData, OffChannel, OnChannel, withOut, withAcks, withBundles, offWith, onWith, withSource}
 use Rattle.model.specs.Refusals.{Refusal, oldVersion, cumulativeOff, lastOnReliable, lastNotExpected, lastOff}
 use Rattle.model.specs.Acks.{ackCumulative, ackSingles}
 use Rattle.model.specs.Group.{Stored, done, beyond, addInPacket, panics}

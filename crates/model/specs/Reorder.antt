@@ -1,5 +1,5 @@
 -- An on-channel's reliable side: the reorder rule, then the grouping (01, "Reorder rule" and "Bundles from the contiguous queue").
-use mathlib.Core.Bool.{Bool, true, false, cond}
+use mathlib.Core.Bool.{cond}
 use mathlib.Core.List.{List, [], _∷_, _++_}
 use Prim.Native.Nat.{ℕ}
 use lib.Dec.{eqb}
@@ -10,7 +10,7 @@ use Rattle.seq.specs.Num.{add, cmp}
 use Rattle.packet.specs.declared.Packet.{Packet}
 use Rattle.packet.specs.Data.{noPacket}
 use Rattle.model.specs.Acks.{search, insertedAt}
-use Rattle.model.specs.Group.{Grouped, group}
+use Rattle.model.specs.Group.{group}
 
 -- expected number, buffer, contiguous queue, and the bundles made that wait to be handed out
 pub record Reliable : Type 0 where

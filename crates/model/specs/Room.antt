@@ -1,6 +1,5 @@
 -- Room (01, "Room"): the limits, judged on a whole state.
 use mathlib.Core.Bool.{Bool, _&&_}
-use Prim.Native.Nat.{ℕ}
 use lib.Dec.{leb}
 use lib.ListN.{length}
 use Rattle.lists.specs.Pad.{allb}

@@ -2,7 +2,7 @@
 use mathlib.Core.Bool.{Bool, true, false, cond, _&&_, _||_}
 use mathlib.Core.List.{List, [], _∷_, _++_, map}
 use mathlib.Core.Option.{Option, none, some}
-use Prim.Native.Nat.{ℕ, suc, _+_, _-_}
+use Prim.Native.Nat.{ℕ, _+_, _-_}
 use lib.Dec.{ltb, leb, eqb}
 use lib.ListN.{length}
 use Rattle.lists.specs.Find.{has, keepBy, joined}
@@ -16,7 +16,7 @@ use Rattle.packet.specs.declared.Prepared.{Prepared}
 use Rattle.packet.specs.declared.Resend.{Resend}
 use Rattle.packet.specs.Data.{isSet, singleAcks, indexOf, versionOf, keyIndex}
 use Rattle.model.specs.State.{Group, OffData, OffChannel, OnChannel, Protocol, withOut, withAcks, withBundles, offWith, onWith, withSource, withShared, withPrefix, withOffset, hasOff, hasOn, offAt, onAt, putOff, putOn, offView, onView}
-use Rattle.model.specs.Refusals.{Refusal, cumulativeOff}
+use Rattle.model.specs.Refusals.{cumulativeOff}
 use Rattle.model.specs.Acks.{forwardedEntry, insertOut, ackInCumulative, ackInSingles}
 use Rattle.model.specs.Record.{Outcome, granted, rejected, farFragment, bareRun, onRecord, offRecord}
 

@@ -10,7 +10,7 @@ use Rattle.seq.specs.Num.{legal, dist, sub}
 use Rattle.packet.specs.declared.Packet.{Packet}
 use Rattle.packet.specs.declared.OutEntry.{OutEntry}
 use Rattle.packet.specs.Data.{isSet, isFlag}
-use Rattle.model.specs.State.{Group, OffData, OffChannel, OnChannel, Protocol, State, isOff, isOn}
+use Rattle.model.specs.State.{Group, OffData, OffChannel, OnChannel, State, isOff, isOn}
 use Rattle.model.specs.Group.{isFirst}
 use Rattle.model.specs.Room.{fits}
 

@@ -1,33 +1,27 @@
 -- The buffer holds the first copies past the missing place, in sending order, and moving successors takes exactly those up to the
 -- next missing place. Assumes nothing.
 use mathlib.Core.Path.{_≡_, refl, ap, sym, _∙_}
-use mathlib.Core.Option.{Option, none, some}
+use mathlib.Core.Option.{Option, none, some, Option·none-ne-some}
 use mathlib.Core.List.{List, [], _∷_, _++_, map, append-assoc, append-nil}
 use Prim.Native.Nat.{ℕ, zero, suc, _+_, _≤_, _<_}
 use native.Mathlib.Omega.{arith}
-use native.Mathlib.Nat.{add-suc, add-zero}
 use native.Mathlib.Decide.{decLt}
-use lib.ListN.{length, getD, length-append, List·getD-append}
-use lib.Seq.{getD-append-add, getD-append-seam, take-append-seam, drop-append-seam, append-snoc}
 use borrow.Author.Tests.{eq-eqb, ne-eqb}
-use Rattle.seq.specs.declared.Order.the-variants.{Less, Equal, Greater}
-use Rattle.seq.specs.Num.{wrap, add, cmp}
+use Rattle.seq.specs.Num.{wrap, add}
 use Rattle.seq.specs.NumLaws.{wrap-suc}
 use Rattle.packet.specs.declared.Packet.{Packet}
-use Rattle.packet.specs.declared.Place.the-variants.{Again, At}
-use Rattle.packet.specs.Data.{Range, noRange, range, noPacket, packetOf}
+use Rattle.packet.specs.Data.{Range, noRange, range, packetOf}
 use Rattle.model.specs.Reorder.{move}
 use Rattle.model.proofs.Search.{Each}
-use Rattle.order.specs.Sent.{Arr, pkt, keep, firsts}
-use Rattle.order.proofs.Copies.{none≢some}
+use Rattle.order.specs.Sent.{Arrival, sentAs, keep, firsts}
 
 packetOf-number : (n x : ℕ) (g : Range) → packetOf n x g .number ≡ n
 packetOf-number n x noRange = refl
 packetOf-number n x (range f l) = refl
 
 -- a packet's number is its place's
-pub pkt-number : (s : ℕ → Range) (a : Arr) → pkt s a .number ≡ wrap (a .place)
-pkt-number s a = packetOf-number (wrap (a .place)) (a .handle) (s (a .place))
+pub sentAs-number : (s : ℕ → Range) (a : Arrival) → sentAs s a .number ≡ wrap (a .place)
+sentAs-number s a = packetOf-number (wrap (a .place)) (a .handle) (s (a .place))
 
 -- ---- first copies
 
@@ -60,12 +54,12 @@ unfolding firsts
 firsts-some f p n e = rw e
 
 -- what holds of each first copy at these places
-pub firsts-each : (s : ℕ → Range) (P : Packet → Type 0) (f : ℕ → Option ℕ) (p n : ℕ) → ((a : Arr) → p ≤ a .place → a .place < p + n → f (a .place) ≡ some (a .handle) → P (pkt s a)) → Each P (map (pkt s) (firsts f p n))
+pub firsts-each : (s : ℕ → Range) (P : Packet → Type 0) (f : ℕ → Option ℕ) (p n : ℕ) → ((a : Arrival) → p ≤ a .place → a .place < p + n → f (a .place) ≡ some (a .handle) → P (sentAs s a)) → Each P (map (sentAs s) (firsts f p n))
 unfolding firsts
 firsts-each s P f p zero h = tt
 firsts-each s P f p (suc n) h = at (f p) refl (firsts-each s P f (suc p) n (λ a l u e. h a (omega arith) (omega arith) e))
   where
-    at : (o : Option ℕ) → f p ≡ o → Each P (map (pkt s) (firsts f (suc p) n)) → Each P (map (pkt s) (keep p o (firsts f (suc p) n)))
+    at : (o : Option ℕ) → f p ≡ o → Each P (map (sentAs s) (firsts f (suc p) n)) → Each P (map (sentAs s) (keep p o (firsts f (suc p) n)))
     at none e i = i
     at (some x) e i = (h (record { place = p; handle = x }) (omega arith) (omega arith) e, i)
 
@@ -89,20 +83,20 @@ pub record Moved (s : ℕ → Range) (f : ℕ → Option ℕ) (k n : ℕ) (q : L
   pub sum : done + left ≡ n
   pub full : (r : ℕ) → k ≤ r → r < next → f r ≡ none → ⊥
   pub open′ : f next ≡ none
-  pub result : move (wrap k) (map (pkt s) (firsts f k n)) q bs
-      ≡ record { expected = wrap next; buffer = map (pkt s) (firsts f next left); queue = q ++ map (pkt s) (firsts f k done); bundles = bs }
+  pub result : move (wrap k) (map (sentAs s) (firsts f k n)) q bs
+      ≡ record { expected = wrap next; buffer = map (sentAs s) (firsts f next left); queue = q ++ map (sentAs s) (firsts f k done); bundles = bs }
 
 stays : (s : ℕ → Range) (f : ℕ → Option ℕ) (k n : ℕ) (q : List Packet) (bs : List (List ℕ)) → f k ≡ none → ((r : ℕ) → (f r ≡ none → ⊥) → r < k + 0x800_0000) → Moved s f k n q bs
 unfolding firsts
 stays s f k n q bs e w =
-    let away : Each (λ p. p .number ≡ wrap k → ⊥) (map (pkt s) (firsts f k n)) = firsts-each s (λ p. p .number ≡ wrap k → ⊥) f k n away-one in
-    record { next = k; done = 0; left = n; reach = omega arith; sum = omega arith; full = λ r l u. absurd (omega arith); open′ = e; result = rw append-nil (move-stop (wrap k) (map (pkt s) (firsts f k n)) q bs away) }
+    let away : Each (λ p. p .number ≡ wrap k → ⊥) (map (sentAs s) (firsts f k n)) = firsts-each s (λ p. p .number ≡ wrap k → ⊥) f k n away-one in
+    record { next = k; done = 0; left = n; reach = omega arith; sum = omega arith; full = λ r l u. absurd (omega arith); open′ = e; result = rw append-nil (move-stop (wrap k) (map (sentAs s) (firsts f k n)) q bs away) }
   where
-    away-one : (a : Arr) → k ≤ a .place → a .place < k + n → f (a .place) ≡ some (a .handle) → pkt s a .number ≡ wrap k → ⊥
+    away-one : (a : Arrival) → k ≤ a .place → a .place < k + n → f (a .place) ≡ some (a .handle) → sentAs s a .number ≡ wrap k → ⊥
     away-one a l u z o =
-        let d : k ≡ a .place → ⊥ = λ v. none≢some (sym e ∙ ap f v ∙ z) in
-        let c : wrap (a .place) ≡ wrap k = sym (pkt-number s a) ∙ o in
-        omega (arith, w (a .place) (λ y. none≢some (sym y ∙ z)), d)
+        let d : k ≡ a .place → ⊥ = λ v. Option·none-ne-some _ (sym e ∙ ap f v ∙ z) in
+        let c : wrap (a .place) ≡ wrap k = sym (sentAs-number s a) ∙ o in
+        omega (arith, w (a .place) (λ y. Option·none-ne-some _ (sym y ∙ z)), d)
 
 pub moves : (s : ℕ → Range) (f : ℕ → Option ℕ) (k n : ℕ) (q : List Packet) (bs : List (List ℕ)) → f (k + n) ≡ none → ((r : ℕ) → (f r ≡ none → ⊥) → r < k + 0x800_0000) → Moved s f k n q bs
 moves s f k zero q bs t w = let z : k + 0 ≡ k = omega arith in stays s f k 0 q bs (rw z at t) w
@@ -111,7 +105,7 @@ moves s f k (suc n) q bs t w = at (f k) refl (λ q. moves s f (suc k) n q bs (le
     at : (o : Option ℕ) → f k ≡ o → ((q : List Packet) → Moved s f (suc k) n q bs) → Moved s f k (suc n) q bs
     at none e ih = stays s f k (suc n) q bs e w
     at (some x) e ih =
-        let p : Packet = pkt s (record { place = k; handle = x }) in
+        let p : Packet = sentAs s (record { place = k; handle = x }) in
         let i : Moved s f (suc k) n (q ++ (p ∷ [])) bs = ih (q ++ (p ∷ [])) in
         record {
           next = i .next;
@@ -121,9 +115,9 @@ moves s f k (suc n) q bs t w = at (f k) refl (λ q. moves s f (suc k) n q bs (le
           sum = omega (arith, i .sum);
           full = λ r l u. up r (decLt k r) l u (i .full r);
           open′ = i .open′;
-          result = rw (firsts-some f k n e, move-one (wrap k) p (map (pkt s) (firsts f (suc k) n)) q bs (pkt-number s (record { place = k; handle = x })), wrap-suc k, i .result, firsts-some f k (i .done) e, append-assoc);
+          result = rw (firsts-some f k n e, move-one (wrap k) p (map (sentAs s) (firsts f (suc k) n)) q bs (sentAs-number s (record { place = k; handle = x })), wrap-suc k, i .result, firsts-some f k (i .done) e, append-assoc);
         }
       where
         up : (r : ℕ) → Dec (k < r) → k ≤ r → {n : ℕ} → r < n → (suc k ≤ r → r < n → f r ≡ none → ⊥) → f r ≡ none → ⊥
         up r (yes v) l u y z = y v u z
-        up r (no v) l u y z = let d : k ≡ r = omega arith in none≢some (sym z ∙ ap f (sym d) ∙ e)
+        up r (no v) l u y z = let d : k ≡ r = omega arith in absurd (Option·none-ne-some _ (sym z ∙ ap f (sym d) ∙ e))

@@ -16,7 +16,7 @@ use Rattle.seq.specs.Num.{add}
 use Rattle.packet.specs.declared.OutEntry.{OutEntry}
 use Rattle.packet.specs.declared.Record.{Record}
 use Rattle.packet.specs.declared.Key.{Key}
-use Rattle.packet.specs.Data.{isSet, isFlag, packet, indexOf, versionOf, keyIndex, wellMade, keyMade}
+use Rattle.packet.specs.Data.{isSet, packet, indexOf, versionOf, keyIndex, wellMade, keyMade}
 use Rattle.model.specs.State.{OffChannel, OnChannel, Protocol, State, newOn, withOut, withAcks, withBundles, onWith, withSource, withTime, isOn, onAt, offAt, putOn}
 use Rattle.model.specs.Refusals.{beyondGroup, overLimit, Change, nothing, time, prefix, channel, acks, changes, stage}
 use Rattle.model.specs.Acks.{takeWritten}
@@ -26,7 +26,7 @@ use Rattle.model.specs.Room.{fits}
 use Rattle.model.specs.Rust as rust
 use Rattle.model.specs.Calls as calls
 use Rattle.model.specs.Calls.{Call}
-use Rattle.model.specs.Port.{Reply, untimed, timed, outStages, roomOut, judgeOut, forward, acceptOutS, find, channelS, handOut, next, nextOf, nextBundleS, roomSend, send, prepareS, queueIf, wroteIf, wrote, wroteOf, acksWrittenS, resend, takeResendsS, hasPlace, deliveryMade, onTime, deliver, acceptS, play, reply}
+use Rattle.model.specs.Port.{Reply, outStages, roomOut, judgeOut, forward, acceptOutS, find, channelS, handOut, next, nextOf, nextBundleS, roomSend, send, prepareS, queueIf, wroteIf, wrote, wroteOf, acksWrittenS, resend, takeResendsS, hasPlace, deliveryMade, asked, onTime, deliver, acceptS, play, reply}
 use Rattle.order.specs.OnKey.{sameKey, isFor, isReliable, taken, grantedBy, names, bundleIn, handedBy}
 use Rattle.order.proofs.Lift.{feed, handed}
 use Rattle.order.proofs.Channels.{seen, on-address, on-index, seen-version, put-same, put-other, put-kept, with-kept}
@@ -39,20 +39,6 @@ module _ (a i : ℕ) where
   -- what leaves the channel's reliable side alone
   abbrev Kept : State → Reply → Type 0
   Kept s x = view (x .state) ≡ view s
-
-  untimed-kept : (x : Change) (s : State) → view (stage x (untimed s)) ≡ view s
-  untimed-kept nothing s = refl
-  untimed-kept time s = refl
-  untimed-kept prefix s = refl
-  untimed-kept channel s = refl
-  untimed-kept acks s = refl
-
-  timed-kept : (x : Change) (t : ℕ) (s : State) → view (stage x (timed t s)) ≡ view s
-  timed-kept nothing t s = refl
-  timed-kept time t s = refl
-  timed-kept prefix t s = refl
-  timed-kept channel t s = refl
-  timed-kept acks t s = refl
 
   -- ---- a delivery
 
@@ -242,7 +228,7 @@ module _ (a i : ℕ) where
 
   prepare-kept : (t : ℕ) (k : Key) (reliable : ℕ) (hs : List ℕ) (s : State) → Kept s (prepareS t k reliable hs s)
   unfolding prepareS
-  prepare-kept t k reliable hs s = send-kept (keyMade k && isFlag reliable && leb (length hs) 16) (onTime t s) (rust.hasKey k (s .protocol)) t k (isSet reliable) hs s
+  prepare-kept t k reliable hs s = send-kept (asked k reliable (length hs)) (onTime t s) (rust.hasKey k (s .protocol)) t k (isSet reliable) hs s
 
   -- ---- acks written
 

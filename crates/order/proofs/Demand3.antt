@@ -19,7 +19,7 @@ use Rattle.model.specs.Reorder.{Reliable, fresh}
 use Rattle.model.specs.Calls.{Call}
 use Rattle.model.specs.Port.{reply}
 use Rattle.model.specs.History.{run}
-use Rattle.order.specs.Sent.{Arr, pkt, received, missing, Near, sentBefore}
+use Rattle.order.specs.Sent.{Arrival, sentAs, received, missing, Near, sentBefore}
 use Rattle.order.specs.OnKey.{isReliable, grantedBy, granted, handedBy, handedOut, waiting, expectedOf}
 use Rattle.order.proofs.Order.{ordered}
 use Rattle.order.proofs.Lift.{feed, feed-append, received-feed, near-earlier, handed, handed-feed, handed-append}
@@ -53,9 +53,9 @@ new-seen f a i = refl
 -- its packets, newest first. If the records granted on the channel are reliable and bring these arrivals, and each arrival was sent less
 -- than 2^27 places before or after the one missing when it came: then the bundles handed out for the channel so far, followed by those
 -- that wait, are what the grouping makes of all packets sent before the missing one, each taken once, by its first copy, in sending order.
-pub demand3 : (f : Bool) (es : List Call) (a i : ℕ) (s : ℕ → Range) (h : List Arr)
+pub demand3 : (f : Bool) (es : List Call) (a i : ℕ) (s : ℕ → Range) (h : List Arrival)
     → allb isReliable (granted a i es (new f)) ≡ true
-    → map packet (granted a i es (new f)) ≡ map (pkt s) (reverse h)
+    → map packet (granted a i es (new f)) ≡ map (sentAs s) (reverse h)
     → Near h
     → (handedOut a i es (new f) ++ waiting a i (run es (new f) .state) ≡ group (sentBefore s h (missing h)) .made) × (expectedOf a i (run es (new f) .state) ≡ wrap (missing h))
 demand3 f es a i s h w b n = (ap (λ (c : Reliable). c .bundles) whole ∙ ordered s h n .0, ap (λ (c : Reliable). c .expected) whole ∙ ordered s h n .1)
@@ -71,18 +71,18 @@ granted-append a i [] fs s = refl
 granted-append a i (e ∷ es) fs s = rw (granted-append a i es fs (reply e s .state), append-assoc)
 
 -- a moment of a history: what arrived by then is the earlier part of the arrivals, and the equations hold of it
-pub record Moment (f : Bool) (es : List Call) (a i : ℕ) (s : ℕ → Range) (h : List Arr) : Type 0 where
-  pub later : List Arr
-  pub sofar : List Arr
+pub record Moment (f : Bool) (es : List Call) (a i : ℕ) (s : ℕ → Range) (h : List Arrival) : Type 0 where
+  pub later : List Arrival
+  pub sofar : List Arrival
   pub parts : later ++ sofar ≡ h
-  pub brought : map packet (granted a i es (new f)) ≡ map (pkt s) (reverse sofar)
+  pub brought : map packet (granted a i es (new f)) ≡ map (sentAs s) (reverse sofar)
   pub bundles : handedOut a i es (new f) ++ waiting a i (run es (new f) .state) ≡ group (sentBefore s sofar (missing sofar)) .made
   pub expected : expectedOf a i (run es (new f) .state) ≡ wrap (missing sofar)
 
 -- the hypotheses of demand 3 on a whole history give its equations at every moment of it
-pub always : (f : Bool) (es fs : List Call) (a i : ℕ) (s : ℕ → Range) (h : List Arr)
+pub always : (f : Bool) (es fs : List Call) (a i : ℕ) (s : ℕ → Range) (h : List Arrival)
     → allb isReliable (granted a i (es ++ fs) (new f)) ≡ true
-    → map packet (granted a i (es ++ fs) (new f)) ≡ map (pkt s) (reverse h)
+    → map packet (granted a i (es ++ fs) (new f)) ≡ map (sentAs s) (reverse h)
     → Near h
     → Moment f es a i s h
 always f es fs a i s h w b n = record { later = later; sofar = sofar; parts = parts; brought = brought; bundles = now .0; expected = now .1 }
@@ -93,23 +93,23 @@ always f es fs a i s h w b n = record { later = later; sofar = sofar; parts = pa
     after : List Record
     after = granted a i fs (run es (new f) .state)
 
-    later : List Arr
+    later : List Arrival
     later = reverse (drop (length before) (reverse h))
 
-    sofar : List Arr
+    sofar : List Arrival
     sofar = reverse (take (length before) (reverse h))
 
     parts : later ++ sofar ≡ h
     parts =
         sym (reverse-append (take (length before) (reverse h)) (drop (length before) (reverse h)))
-        ∙ ap (λ (l : List Arr). reverse l) (take-append-drop (length before) (reverse h))
+        ∙ ap (λ (l : List Arrival). reverse l) (take-append-drop (length before) (reverse h))
         ∙ reverse-reverse h
 
-    whole : map packet before ++ map packet after ≡ map (pkt s) (reverse h)
+    whole : map packet before ++ map packet after ≡ map (sentAs s) (reverse h)
     whole = sym (rw (granted-append a i es fs (new f), map-append)) ∙ b
 
-    brought : map packet before ≡ map (pkt s) (reverse sofar)
-    brought = front-map Record Arr Packet packet (pkt s) before (map packet after) (reverse h) whole ∙ ap (λ (l : List Arr). map (pkt s) l) (sym (reverse-reverse (take (length before) (reverse h))))
+    brought : map packet before ≡ map (sentAs s) (reverse sofar)
+    brought = front-map Record Arrival Packet packet (sentAs s) before (map packet after) (reverse h) whole ∙ ap (λ (l : List Arrival). map (sentAs s) l) (sym (reverse-reverse (take (length before) (reverse h))))
 
     reliable : allb isReliable before ≡ true
     reliable = and-left (allb isReliable before) (allb isReliable after) (sym (allb-append isReliable before after) ∙ (rw (granted-append a i es fs (new f)) at w))

@@ -4,25 +4,24 @@ use mathlib.Core.Bool.{true, false, cond}
 use mathlib.Core.List.{List, [], _∷_, map, reverse}
 use Prim.Native.Nat.{ℕ}
 use lib.Dec.{ltb, lit<}
-use lib.ListN.{replicate}
+use lib.ListN.{take}
 use Rattle.lists.specs.Pad.{allb}
 use Rattle.lists.specs.Find.{has, findBy, putBy, keepBy, joined}
 use Rattle.seq.specs.Num.{cmp}
 use Rattle.packet.specs.declared.Packet.{Packet}
-use Rattle.packet.specs.declared.Record.{Record}
 use Rattle.packet.specs.Data.{Range, noRange, range, packetOf, packet, wellMade, keyMade}
 use Rattle.model.specs.State.{new}
-use Rattle.model.specs.Refusals.{cumulativeOff}
 use Rattle.model.specs.Acks.{ackSingles, search}
 use Rattle.model.specs.Group.{step, groupN, group, panicsN, panics}
 use Rattle.model.specs.Reorder.{insertBuffered, move, reorder, regroup, arrive}
-use Rattle.model.specs.Record.{reliableIn, onRecord, offRecord}
+use Rattle.model.specs.Record.{reliableIn, onRecord}
 use Rattle.model.specs.Room.{fitsData, fits}
 use Rattle.model.specs.Rust.{acceptRecord}
-use Rattle.model.specs.Calls.{Call, accept, nextBundle, Answer, delivered, undelivered, noBundle, bundle}
+use Rattle.model.specs.Calls.{Call}
 use Rattle.model.specs.Port.{recordStep, play, count, lastResult, lastMade, acceptS, nextBundleS, reply}
 use Rattle.model.specs.History.{run}
-use Rattle.order.specs.Sent.{Arr, pkt, received, copy, above, climb, missing, Near, firsts, sentBefore}
+use Rattle.model.proofs.Instances.{script}
+use Rattle.order.specs.Sent.{Arrival, sentAs, received, copy, above, leastFrom, missing, Near, firsts, sentBefore}
 use Rattle.order.specs.OnKey.{isReliable, taken, granted, handedOut, waiting}
 
 -- ---- the grouping
@@ -66,7 +65,7 @@ incomplete = refl
 
 -- ---- arrivals
 
-abbrev at : ℕ → ℕ → Arr
+abbrev at : ℕ → ℕ → Arrival
 at p x = record { place = p; handle = x }
 
 -- places 1 and 2 share the range 1 to 2; the rest stand alone
@@ -74,103 +73,42 @@ pair : ℕ → Range
 pair p = cond (ltb 0 p) (cond (ltb p 3) (range 1 2) noRange) noRange
 
 -- out of order, place 2 twice
-history : List Arr
+history : List Arrival
 history = at 0 10 ∷ at 2 99 ∷ at 3 13 ∷ at 1 11 ∷ at 2 12 ∷ []
 
 fragments : received pair history ≡ record { expected = 4; buffer = []; queue = []; bundles = (10 ∷ []) ∷ (11 ∷ 12 ∷ []) ∷ (13 ∷ []) ∷ [] }
 unfolding received insertBuffered arrive reorder regroup cmp search move group groupN step pair history
 fragments = refl
 
-buffered : received pair (at 2 99 ∷ at 3 13 ∷ at 1 11 ∷ at 2 12 ∷ []) ≡ record { expected = 0; buffer = map (pkt pair) (at 1 11 ∷ at 2 12 ∷ at 3 13 ∷ []); queue = []; bundles = [] }
+buffered : received pair (at 2 99 ∷ at 3 13 ∷ at 1 11 ∷ at 2 12 ∷ []) ≡ record { expected = 0; buffer = map (sentAs pair) (at 1 11 ∷ at 2 12 ∷ at 3 13 ∷ []); queue = []; bundles = [] }
 unfolding received insertBuffered arrive reorder regroup cmp search move group groupN step pair
 buffered = refl
 
 rule : group (sentBefore pair history (missing history)) .made ≡ (10 ∷ []) ∷ (11 ∷ 12 ∷ []) ∷ (13 ∷ []) ∷ []
-unfolding missing copy above climb firsts group groupN step pair history
+unfolding missing copy above leastFrom firsts group groupN step pair history
 rule = refl
 
 is-near : Near history
-unfolding missing copy above climb history
+unfolding missing copy above leastFrom history
 is-near = ((((((tt, lit< tt, lit< tt), lit< tt, lit< tt), lit< tt, lit< tt), lit< tt, lit< tt), lit< tt, lit< tt))
 
--- ---- 01's printed driver run
+-- ---- 01's script
 
--- `on rel seq N pkt H`
-abbrev ordered : ℕ → ℕ → Record
-ordered n h =
-    record {
-      handle = h;
-      prefix = 0;
-      on = 1;
-      indexed = 0;
-      index = 0;
-      version = 0;
-      reliable = 1;
-      number = n;
-      ranged = 0;
-      first = 0;
-      last = 0;
-      hascumulative = 0;
-      cumulative = 0;
-      haslast = 0;
-      lastreliable = 0;
-      ackcount = 0;
-      acks = replicate 8 0;
-    }
-
--- `seq 0 cum 3 pkt 23`
-abbrev acknowledging : Record
-acknowledging =
-    record {
-      handle = 23;
-      prefix = 0;
-      on = 0;
-      indexed = 0;
-      index = 0;
-      version = 0;
-      reliable = 0;
-      number = 0;
-      ranged = 0;
-      first = 0;
-      last = 0;
-      hascumulative = 1;
-      cumulative = 3;
-      haslast = 0;
-      lastreliable = 0;
-      ackcount = 0;
-      acks = replicate 8 0;
-    }
-
--- `pop 7 on`
-abbrev pop : Call
-pop = nextBundle (record { address = 7; on = 1; indexed = 0; index = 0 }) (replicate 64 0)
-
-driver : List Call
-driver = accept 0 7 (ordered 1 21 ∷ []) ∷ accept 5 7 (ordered 0 20 ∷ []) ∷ accept 6 7 (ordered 1 22 ∷ []) ∷ pop ∷ pop ∷ pop ∷ accept 7 7 (acknowledging ∷ []) ∷ []
-
--- `ok on 7 - exp N`
-abbrev okOn : ℕ → Answer
-okOn n = delivered (record { on = 1; address = 7; index = 0; version = 0; expected = n }) 1
-
-printed : run driver (new false) .answers ≡ okOn 0 ∷ okOn 2 ∷ okOn 2 ∷ bundle (20 ∷ []) ∷ bundle (21 ∷ []) ∷ noBundle ∷ undelivered cumulativeOff 0 ∷ []
-unfolding driver run reply acceptS nextBundleS lastMade play recordStep count lastResult wellMade keyMade acceptRecord onRecord offRecord reliableIn ackSingles has findBy putBy joined allb fits fitsData reorder regroup insertBuffered search move cmp group groupN step panics panicsN
-printed = refl
-
--- after one of the three pops a bundle is handed out and another waits; places 1, 0, 1 meet the hypotheses of demand 3
+-- after the first of its three pops a bundle is handed out and another waits; places 1, 0, 1 meet the hypotheses of demand 3
 moment : List Call
-moment = accept 0 7 (ordered 1 21 ∷ []) ∷ accept 5 7 (ordered 0 20 ∷ []) ∷ accept 6 7 (ordered 1 22 ∷ []) ∷ pop ∷ []
+moment = take 4 script
 
-arrivals : List Arr
+arrivals : List Arrival
 arrivals = at 1 22 ∷ at 0 20 ∷ at 1 21 ∷ []
 
-hypotheses : (allb isReliable (granted 7 0 moment (new false)) ≡ true) × (map packet (granted 7 0 moment (new false)) ≡ map (pkt (λ p. noRange)) (reverse arrivals))
+hypotheses : (allb isReliable (granted 7 0 moment (new false)) ≡ true) × (map packet (granted 7 0 moment (new false)) ≡ map (sentAs (λ p. noRange)) (reverse arrivals))
 unfolding moment arrivals granted taken keepBy reply acceptS nextBundleS lastMade play recordStep count lastResult wellMade keyMade acceptRecord onRecord reliableIn ackSingles has findBy putBy joined allb fits fitsData reorder regroup insertBuffered search move cmp group groupN step panics panicsN
 hypotheses = (refl, refl)
 
 are-near : Near arrivals
-unfolding missing copy above climb arrivals
+unfolding missing copy above leastFrom arrivals
 are-near = (((tt, lit< tt, lit< tt), lit< tt, lit< tt), lit< tt, lit< tt)
 
 conclusion : (handedOut 7 0 moment (new false) ≡ (20 ∷ []) ∷ []) × (waiting 7 0 (run moment (new false) .state) ≡ (21 ∷ []) ∷ []) × (group (sentBefore (λ p. noRange) arrivals (missing arrivals)) .made ≡ (20 ∷ []) ∷ (21 ∷ []) ∷ []) × (missing arrivals ≡ 2)
-unfolding moment arrivals missing copy above climb firsts handedOut run reply acceptS nextBundleS lastMade play recordStep count lastResult wellMade keyMade acceptRecord onRecord reliableIn ackSingles has findBy putBy joined allb fits fitsData reorder regroup insertBuffered search move cmp group groupN step panics panicsN
+unfolding moment arrivals missing copy above leastFrom firsts handedOut run reply acceptS nextBundleS lastMade play recordStep count lastResult wellMade keyMade acceptRecord onRecord reliableIn ackSingles has findBy putBy joined allb fits fitsData reorder regroup insertBuffered search move cmp group groupN step panics panicsN
 conclusion = (refl, refl, refl, refl)

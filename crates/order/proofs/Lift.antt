@@ -10,7 +10,7 @@ use Rattle.seq.specs.Num.{add, cmp}
 use Rattle.packet.specs.declared.Packet.{Packet}
 use Rattle.packet.specs.Data.{Range}
 use Rattle.model.specs.Reorder.{Reliable, fresh, move, place, reorder, regroup, arrive}
-use Rattle.order.specs.Sent.{Arr, pkt, received, Near}
+use Rattle.order.specs.Sent.{Arrival, sentAs, received, Near}
 
 -- several arrivals, oldest first
 unfoldable pub feed : Reliable → List Packet → Reliable
@@ -22,17 +22,17 @@ unfolding feed
 feed-append c [] qs = refl
 feed-append c (p ∷ ps) qs = feed-append (arrive c p) ps qs
 
-feed-received : (s : ℕ → Range) (h g : List Arr) → feed fresh (map (pkt s) (reverseAux h g)) ≡ feed (received s h) (map (pkt s) g)
+feed-received : (s : ℕ → Range) (h g : List Arrival) → feed fresh (map (sentAs s) (reverseAux h g)) ≡ feed (received s h) (map (sentAs s) g)
 unfolding feed received
 feed-received s [] g = refl
 feed-received s (a ∷ h) g = feed-received s h (a ∷ g)
 
-pub received-feed : (s : ℕ → Range) (h : List Arr) → feed fresh (map (pkt s) (reverse h)) ≡ received s h
+pub received-feed : (s : ℕ → Range) (h : List Arrival) → feed fresh (map (sentAs s) (reverse h)) ≡ received s h
 unfolding feed
 received-feed s h = feed-received s h []
 
 -- an earlier moment of a history whose arrivals were near
-pub near-earlier : (g h : List Arr) → Near (g ++ h) → Near h
+pub near-earlier : (g h : List Arrival) → Near (g ++ h) → Near h
 near-earlier [] h n = n
 near-earlier (a ∷ g) h n = near-earlier g h (n .0)
 

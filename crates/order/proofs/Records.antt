@@ -4,12 +4,11 @@ use mathlib.Core.Path.{_≡_, refl, ap, sym, _∙_}
 use mathlib.Core.Bool.{Bool, true, false, cond, _&&_}
 use mathlib.Core.List.{List, [], _∷_, _++_, map, map-append}
 use Prim.Native.Nat.{ℕ}
-use native.Mathlib.Omega.{arith}
 use lib.Dec.{ltb, eqb}
 use borrow.Author.Tests.{eqb-true}
 use Rattle.lists.specs.Pad.{allb}
 use Rattle.lists.specs.Find.{keepBy}
-use Rattle.lists.proofs.Pad.{and-left, and-right}
+use Rattle.lists.proofs.Pad.{never, and-left, and-right}
 use Rattle.lists.proofs.Find.{keep-append}
 use Rattle.lists.proofs.Tests.{allb-append}
 use Rattle.seq.specs.Num.{sub}
@@ -26,9 +25,6 @@ use Rattle.model.specs.Port.{Result, takes, refuses, Recorded, recordChannel, r
 use Rattle.order.specs.OnKey.{sameKey, isFor, isReliable, takenIf, taken}
 use Rattle.order.proofs.Lift.{feed, feed-append}
 use Rattle.order.proofs.Channels.{seen, on-address, on-index, seen-version, put-same, put-other, put-kept, with-kept}
-
-pub false≢true : {A : Type 0} → _≡_ {A = Bool} false true → A
-false≢true e = let z : _≡_ {A = ℕ} 0 1 = cc in absurd (omega arith)
 
 -- ---- on its channel
 
@@ -57,7 +53,7 @@ reliable-good forwarding r c =
     (refl, refl, λ e. refl)
 
 stored-good : (r : Record) (c : OnChannel) (o : Stored) → isReliable r ≡ false → Good r c (storedOn c o)
-stored-good r c (done d) n = (refl, refl, λ e. false≢true (sym n ∙ e))
+stored-good r c (done d) n = (refl, refl, λ e. never (sym n ∙ e))
 stored-good r c beyond n = tt
 
 loose-good : (t : ℕ) (r : Record) (c : OnChannel) → isReliable r ≡ false → Good r c (looseOn t r c)
@@ -130,10 +126,10 @@ module _ (a i : ℕ) where
   on-whole b v r p (bareRun d) g = put-brings b v r p d g
 
   off-whole : (b : ℕ) (r : Record) (p : Protocol) (o : Outcome OffChannel) → Whole false b r p (rust.outcomeMap (rust.keepOff (withPrefix (r .prefix) p)) o)
-  off-whole b r p (granted d) = record { other = λ e. refl; here = λ e. false≢true e }
+  off-whole b r p (granted d) = record { other = λ e. refl; here = λ e. never e }
   off-whole b r p (rejected x d) = tt
   off-whole b r p farFragment = tt
-  off-whole b r p (bareRun d) = record { other = λ e. refl; here = λ e. false≢true e }
+  off-whole b r p (bareRun d) = record { other = λ e. refl; here = λ e. never e }
 
   whole : (u : Bool) (t b : ℕ) (r : Record) (p : Protocol) → Whole u b r p (rust.recordOf u t b r p)
   whole true t b r p = on-whole b (versionOf r) r p (onRecord (p .forwarding) t r (onAt b (indexOf r) (versionOf r) p)) (on-good (p .forwarding) t r (onAt b (indexOf r) (versionOf r) p))

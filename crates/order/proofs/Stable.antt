@@ -1,23 +1,23 @@
 -- Grouping is stable under extension: what was made of a queue stays made when more packets wait behind it.
 -- Assumes nothing.
-use mathlib.Core.Path.{_≡_, refl, ap}
+use mathlib.Core.Path.{_≡_, refl}
 use mathlib.Core.Bool.{Bool, true, false}
 use mathlib.Core.List.{List, [], _∷_, _++_, append-assoc}
-use Prim.Native.Nat.{ℕ, zero, suc, _≤_, _<_}
+use Prim.Native.Nat.{ℕ, zero, suc, _≤_}
 use native.Mathlib.Omega.{arith}
 use lib.Dec.{ltb, eqb}
-use lib.ListN.{length, drop, length-append, length-drop}
+use lib.ListN.{length, length-append}
 use lib.Seq.{take-append-le, drop-append-le}
 use borrow.Author.Tests.{ltb-false, le-ltb}
 use Rattle.seq.specs.Num.{dist}
 use Rattle.packet.specs.declared.Packet.{Packet}
 use Rattle.packet.specs.Data.{Range, noRange, range, rangeOf}
 use Rattle.model.specs.Group.{Step, stop, go, enough, first, front, step, before, group}
-use Rattle.model.proofs.Grouping.{stops, step-less, group-stop, group-go}
+use Rattle.model.proofs.Grouping.{never-goes, step-less, group-stop, group-go}
 
 -- a step that goes on does the same with more packets behind
 enough-more : (c : Bool) (f l n : ℕ) (q ys : List Packet) {bs : List (List ℕ)} {r : List Packet} → ltb (length q) n ≡ c → enough c f l n q ≡ go bs r → enough (ltb (length (q ++ ys)) n) f l n (q ++ ys) ≡ go bs (r ++ ys)
-enough-more true f l n q ys h e = stops e
+enough-more true f l n q ys h e = never-goes e
 enough-more false f l n q ys {bs} {r} h e =
     let le : n ≤ length q = ltb-false _ _ h in
     let le′ : n ≤ length (q ++ ys) = omega (arith, length-append q ys) in
@@ -33,7 +33,7 @@ front-more (range f l) p q ys e = first-more (eqb (p .number) f) f l p q ys e
 
 pub step-more : (q ys : List Packet) {bs : List (List ℕ)} {r : List Packet} → step q ≡ go bs r → step (q ++ ys) ≡ go bs (r ++ ys)
 unfolding step
-step-more [] ys e = stops e
+step-more [] ys e = never-goes e
 step-more (p ∷ q) ys e = front-more (rangeOf p) p q ys e
 
 empty : step [] ≡ stop

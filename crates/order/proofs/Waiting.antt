@@ -3,20 +3,19 @@ use mathlib.Core.Path.{_≡_, refl, ap, _∙_}
 use mathlib.Core.Bool.{Bool, true, false}
 use mathlib.Core.List.{List, [], _∷_, _++_}
 use Prim.Native.Nat.{ℕ}
-use native.Mathlib.Omega.{arith}
 use lib.Dec.{leb, eqb}
 use lib.ListN.{length, replicate}
 use borrow.Author.Tests.{eqb-true}
 use Rattle.lists.specs.Pad.{allb}
 use Rattle.lists.specs.Find.{has}
-use Rattle.lists.proofs.Pad.{and-left, and-right}
+use Rattle.lists.proofs.Pad.{never, and-left, and-right}
 use Rattle.lists.proofs.Find.{find-absent}
 use Rattle.packet.specs.declared.Key.{Key}
 use Rattle.packet.specs.Data.{isSet, keyIndex, keyMade}
 use Rattle.model.specs.State.{OnChannel, State, newOn, isOn}
 use Rattle.model.specs.Reorder.{Reliable}
 use Rattle.model.specs.Rust as rust
-use Rattle.model.specs.Calls.{nextBundle, bundle}
+use Rattle.model.specs.Calls.{nextBundle}
 use Rattle.model.specs.Port.{nextBundleS, reply}
 use Rattle.order.specs.OnKey.{sameKey, names, handedBy, handedOut, waiting}
 use Rattle.order.proofs.Lift.{feed}
@@ -48,7 +47,7 @@ module _ (a i : ℕ) (k : Key) (l : List ℕ) (m : keyMade k ≡ true) (n : name
       at true q = refl
       at false q =
           let z : waiting a i s ≡ [] = ap (λ (c : OnChannel). c .off .bundles) (find-absent (isOn a i) (newOn a i 0) (s .protocol .ons) q) in
-          absurd (let y : _≡_ {A = ℕ} 0 1 = cc in omega arith)
+          never (cc)
 
   front : (s : State) → rust.dataOf k (s .protocol) .bundles ≡ waiting a i s
   front s =

@@ -11,7 +11,7 @@ use Rattle.packet.specs.Data.{isSet, indexOf, keyIndex}
 use Rattle.model.specs.State.{OnChannel, State, onAt}
 use Rattle.model.specs.Calls.{Call, accept, acceptOut, channel, nextBundle, prepare, acksWritten, takeResends, holds, lastAcceptedPrefix, resetPrefixOffset, transferPrefixOffset, Answer, refused, delivered, undelivered, found, noBundle, bundle, prepared, done, resends, held, prefixIs}
 use Rattle.model.specs.Port.{Result, takes, refuses, reply}
-use Rattle.model.specs.History.{recordsOf}
+use Rattle.model.specs.History.{resultsOf}
 
 abbrev pub sameKey : ℕ → ℕ → ℕ → ℕ → Bool
 sameKey b j a i = eqb b a && eqb j i
@@ -38,7 +38,7 @@ taken (r ∷ rs) (x ∷ xs) = takenIf x r (taken rs xs)
 
 -- the records that a call brings and that are granted on the channel
 abbrev pub grantedBy : ℕ → ℕ → Call → State → List Record
-grantedBy a i (accept t b rs) s = keepBy (isFor a i b) (taken rs (recordsOf (accept t b rs) s))
+grantedBy a i (accept t b rs) s = keepBy (isFor a i b) (taken rs (resultsOf (accept t b rs) s))
 grantedBy a i (acceptOut t b r) s = []
 grantedBy a i (channel k) s = []
 grantedBy a i (nextBundle k l) s = []
@@ -75,19 +75,22 @@ bundleIn (resends xs) = []
 bundleIn (held b) = []
 bundleIn (prefixIs n) = []
 
--- the bundle that a call hands out for the channel
+-- the bundle that a call hands out for the channel, by its answer
+abbrev pub handedIn : ℕ → ℕ → Call → Answer → List (List ℕ)
+handedIn a i (accept t b rs) x = []
+handedIn a i (acceptOut t b r) x = []
+handedIn a i (channel k) x = []
+handedIn a i (nextBundle k l) x = cond (names a i k) (bundleIn x) []
+handedIn a i (prepare t k reliable hs) x = []
+handedIn a i (acksWritten k ns) x = []
+handedIn a i (takeResends t timeout giveUp l) x = []
+handedIn a i (holds h) x = []
+handedIn a i lastAcceptedPrefix x = []
+handedIn a i resetPrefixOffset x = []
+handedIn a i transferPrefixOffset x = []
+
 abbrev pub handedBy : ℕ → ℕ → Call → State → List (List ℕ)
-handedBy a i (accept t b rs) s = []
-handedBy a i (acceptOut t b r) s = []
-handedBy a i (channel k) s = []
-handedBy a i (nextBundle k l) s = cond (names a i k) (bundleIn (reply (nextBundle k l) s .answer)) []
-handedBy a i (prepare t k reliable hs) s = []
-handedBy a i (acksWritten k ns) s = []
-handedBy a i (takeResends t timeout giveUp l) s = []
-handedBy a i (holds h) s = []
-handedBy a i lastAcceptedPrefix s = []
-handedBy a i resetPrefixOffset s = []
-handedBy a i transferPrefixOffset s = []
+handedBy a i e s = handedIn a i e (reply e s .answer)
 
 -- those of a history, oldest first
 unfoldable pub handedOut : ℕ → ℕ → List Call → State → List (List ℕ)

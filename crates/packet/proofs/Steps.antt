@@ -1,6 +1,6 @@
 -- What each return of this crate's functions owes, over plain values. Assumes nothing.
 use mathlib.Core.Path.{_≡_, refl, sym, _∙_}
-use mathlib.Core.Bool.{Bool, true, false, not, _&&_}
+use mathlib.Core.Bool.{Bool, true, false, not, cond, _&&_}
 use mathlib.Core.List.{List}
 use Prim.Native.Nat.{ℕ, _+_, _≤_, _<_}
 use native.Mathlib.Omega.{arith}
@@ -15,7 +15,7 @@ use Rattle.seq.specs.Num.{legal}
 use Rattle.packet.specs.declared.Record.{Record}
 use Rattle.packet.specs.declared.Packet.{Packet}
 use Rattle.packet.specs.declared.Key.{Key}
-use Rattle.packet.specs.Data.{isFlag, given, packet, flagged, indexGood, acksGood, wellMade, keyMade}
+use Rattle.packet.specs.Data.{isSet, isFlag, given, packet, flagged, indexGood, acksGood, wellMade, keyMade}
 
 -- ---- a field that is flagged, a packet with a range
 
@@ -24,6 +24,12 @@ passes-yes flag ok h = rw (eq-eqb flag 1 h)
 
 pub passes-no : (flag : ℕ) (ok : Bool) → (flag ≡ 1 → ⊥) → true ≡ given flag ok
 passes-no flag ok h = rw (ne-eqb flag 1 h)
+
+pub flagged-yes : (flag value : ℕ) → flag ≡ 1 → value ≡ cond (isSet flag) value 0
+flagged-yes flag value h = rw (eq-eqb flag 1 h)
+
+pub flagged-no : (flag value : ℕ) → (flag ≡ 1 → ⊥) → 0 ≡ cond (isSet flag) value 0
+flagged-no flag value h = rw (ne-eqb flag 1 h)
 
 pub packet-ranged : (r : Record) → r .ranged ≡ 1 → _≡_ {A = Packet} (record { number = r .number; handle = r .handle; ranged = 1; first = r .first; last = r .last }) (packet r)
 packet-ranged r h = rw (eq-eqb (r .ranged) 1 h)
@@ -38,11 +44,11 @@ pub flags-of : (r : Record) (a b c d e f : Bool)
     → (a && b && c && d && e && f) ≡ flagged r
 flags-of r a b c d e f pa pb pc pd pe pf = rw (pa, pb, pc, pd, pe, pf)
 
-pub index-of : (r : Record) (inner outer : Bool)
+pub index-good : (r : Record) (inner outer : Bool)
     → inner ≡ given (r .indexed) (not (eqb (r .index) 0) && not (eqb (r .version) 0))
     → outer ≡ given (r .on) inner
     → outer ≡ indexGood r
-index-of r inner outer p q = rw (q, p)
+index-good r inner outer p q = rw (q, p)
 
 pub key-of : (k : Key) (a b inner outer : Bool)
     → a ≡ isFlag (k .on) → b ≡ isFlag (k .indexed)
@@ -105,4 +111,4 @@ pub made-of : (r : Record) (flags index number first last range cum cumulative l
 unfolding wellMade
 made-of r flags index number first last range cum cumulative lrel lastgood acks pf pi pn p1 p2 pr pc pcu pl pla pa = rw (pf, pi, pn, pr, pcu, pla, pa, p1, p2, pc, pl)
 
-pub ruleset steps = (passes-yes, passes-no, packet-ranged, packet-bare, flags-of, index-of, key-of, reading-start, reading-step, reading-hit, reading-end, acks-few, acks-many, made-of, needs)
+pub ruleset steps = (passes-yes, passes-no, flagged-yes, flagged-no, packet-ranged, packet-bare, flags-of, index-good, key-of, reading-start, reading-step, reading-hit, reading-end, acks-few, acks-many, made-of, needs)

@@ -1,8 +1,8 @@
 -- What the plain data mean: flags, ranges, a record's packet, and which record or key is malformed (refusal 2).
 use mathlib.Core.Bool.{Bool, true, false, not, cond, _&&_, _||_}
-use mathlib.Core.List.{List, [], _∷_}
-use Prim.Native.Nat.{ℕ, zero, suc}
-use lib.Dec.{ltb, leb, eqb}
+use mathlib.Core.List.{List}
+use Prim.Native.Nat.{ℕ}
+use lib.Dec.{leb, eqb}
 use lib.ListN.{take, replicate}
 use Rattle.lists.specs.Pad.{allb}
 use Rattle.seq.specs.Num.{legal}
@@ -10,6 +10,7 @@ use Rattle.packet.specs.declared.Record.{Record}
 use Rattle.packet.specs.declared.Packet.{Packet}
 use Rattle.packet.specs.declared.OutEntry.{OutEntry}
 use Rattle.packet.specs.declared.Key.{Key}
+use Rattle.packet.specs.declared.View.{View}
 
 -- an unused place
 abbrev pub noPacket : Packet
@@ -17,6 +18,10 @@ noPacket = record { number = 0; handle = 0; ranged = 0; first = 0; last = 0 }
 
 abbrev pub noEntry : OutEntry
 noEntry = record { time = 0; sent = 0; number = 0; held = 0; handle = 0 }
+
+-- no channel is answered
+abbrev pub noView : View
+noView = record { on = 0; address = 0; index = 0; version = 0; expected = 0 }
 
 -- a record with no field given: "an absent `seq` or `pkt` is 0"; also an unused place
 abbrev pub noRecord : Record

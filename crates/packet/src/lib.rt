@@ -1,10 +1,11 @@
 // Plain data that the host lends and the tables keep: integers only, so that any bit pattern is a value. A flag is 0 or 1.
 ghost use mathlib.Core.Path.{_≡_};
+ghost use mathlib.Core.Bool.{cond};
 ghost use lib.ListN.{take};
 ghost use Prim.Native.Nat.{_≤_};
 ghost use Rattle.lists.specs.Pad.{allb};
 ghost use Rattle.seq.specs.Num as Num;
-ghost use Rattle.packet.specs.Data.{noPacket, noEntry, isFlag, given, flagged, indexGood, acksGood, wellMade, keyMade, packet};
+ghost use Rattle.packet.specs.Data.{noPacket, noEntry, noRecord, noView, isSet, isFlag, indexOf, versionOf, keyIndex, given, flagged, indexGood, acksGood, wellMade, keyMade, packet};
 
 // One record (01, "One record"): what the relay read from a packet. A field that is not flagged is ignored.
 #[repr(C)]
@@ -124,6 +125,21 @@ impl OutEntry {
     }
 }
 
+impl View {
+    // No channel is answered.
+    pub fn none() -> View
+        ensures { λ r. ⌜ r ≡ noView ⌝ }
+    {
+        View {
+            on: 0,
+            address: 0,
+            index: 0,
+            version: 0,
+            expected: 0,
+        }
+    }
+}
+
 // A flag is 0 or 1; any other number is out of range.
 fn is_flag(f: u32) -> bool
     ensures { λ r. ⌜ r ≡ isFlag f ⌝ }
@@ -139,6 +155,16 @@ fn passes(flag: u32, ok: bool) -> bool
         return ok;
     }
     true
+}
+
+// "Fields not flagged are ignored": such a field is 0.
+pub fn if_flagged(flag: u32, value: u32) -> u32
+    ensures { λ r. ⌜ r ≡ cond (isSet flag) value 0 ⌝ }
+{
+    if flag != 1 {
+        return 0;
+    }
+    value
 }
 
 // The first `count` of the acks are legal numbers.
@@ -158,6 +184,45 @@ fn acks_legal(acks: [u32; 8], count: u32) -> bool
 }
 
 impl Record {
+    // A record with no field given; an unused place.
+    pub fn none() -> Record
+        ensures { λ r. ⌜ r ≡ noRecord ⌝ }
+    {
+        Record {
+            handle: 0,
+            prefix: 0,
+            on: 0,
+            indexed: 0,
+            index: 0,
+            version: 0,
+            reliable: 0,
+            number: 0,
+            ranged: 0,
+            first: 0,
+            last: 0,
+            hascumulative: 0,
+            cumulative: 0,
+            haslast: 0,
+            lastreliable: 0,
+            ackcount: 0,
+            acks: [0; 8],
+        }
+    }
+
+    // The index that a record brings, 0 where it has none.
+    pub fn index_of(self) -> u32
+        ensures { λ r. ⌜ r ≡ indexOf self ⌝ }
+    {
+        if_flagged(self.indexed, self.index)
+    }
+
+    // The version that a record brings, 0 where it has no index.
+    pub fn version_of(self) -> u32
+        ensures { λ r. ⌜ r ≡ versionOf self ⌝ }
+    {
+        if_flagged(self.indexed, self.version)
+    }
+
     fn flags_good(self) -> bool
         ensures { λ r. ⌜ r ≡ flagged self ⌝ }
     {
@@ -230,6 +295,13 @@ impl Record {
 }
 
 impl Key {
+    // The index that a key names, 0 where it names none.
+    pub fn index_of(self) -> u32
+        ensures { λ r. ⌜ r ≡ keyIndex self ⌝ }
+    {
+        if_flagged(self.indexed, self.index)
+    }
+
     // A key is malformed, refusal 2, where this is false.
     pub fn well_made(self) -> bool
         ensures { λ r. ⌜ r ≡ keyMade self ⌝ }

@@ -12,7 +12,7 @@ use mir.Val.{Fits}
 use borrow.Author.Tests.{le-leb, lt-leb, leb-false, ne-eqb, not-true, not-false}
 use Rattle.lists.specs.Pad.{pad}
 use Rattle.lists.specs.Find.{joined}
-use Rattle.lists.proofs.Pad.{take-pad}
+use Rattle.lists.proofs.Pad.{never, take-pad}
 use Rattle.lists.proofs.Joined.{joined-append}
 use Rattle.seq.specs.declared.Order.{Order}
 use Rattle.seq.specs.declared.Order.the-variants.{Less, Equal, Greater}
@@ -212,7 +212,7 @@ module _ (w : Work) (old made : Bundles) (at : ℕ) (pop : Pop) (n : ℕ) (s : G
   no-room false y p q h bs l m = rw (lt-leb (length bs) 16 (omega (arith, leb-false (suc (length (Made.abs made))) 16 (sym p))))
   no-room true false p q h bs l m =
       rw (lt-leb (length (joined bs)) 64 (omega (arith, leb-false (length (joined (Made.abs made)) + n) 64 (sym q))), and-false)
-  no-room true true p q h bs l m = let z : _≡_ {A = ℕ} 0 1 = cc in absurd (omega arith)
+  no-room true true p q h bs l m = never (cc)
 
   pub going-full : (b : Bool) (none : Waiting) → pop ≡ Take n → b ≡ Made.room (Made.abs made) n → not b ≡ true → none ≡ Waits.repr [] → _≡_ {A = Grouping} (record { fits = 0; queue = none; bundles = old }) (grouped (abs w) old)
   unfolding grouped
@@ -390,6 +390,3 @@ module _ (e : ℕ) (b q : Waiting) (bs : Bundles) (p : Packet) (a : Alone e b q 
       let s : _≡_ {A = Reordered} (record { fits = 1; expected = x; buffer = b; queue = q; bundles = made }) (changed (passed e (Made.abs bs) p)) =
       λ i. record { fits = 1; expected = n i; buffer = fb i; queue = fq i; bundles = m i } in
       s ∙ ap changed (sym alone-arrive) ∙ sym (rw (alone-room t h ∙ not-false t k))
-
-pub alone-is : (e : ℕ) (b q : Waiting) (p : Packet) → Waits.Wf b → Waits.Wf q → b .len ≡ 0 → q .len ≡ 0 → (p .ranged ≡ 1 → ⊥) → p .number ≡ e → Alone e b q p
-alone-is e b q p f g h k r n = record { buffer = f; queue = g; none = h; empty = k; single = r; next = n }

@@ -14,9 +14,10 @@ use Rattle.packet.specs.declared.OutEntry.{OutEntry}
 use Rattle.model.specs.Acks.{ackSingle, ackSingles, ackCumulative, insertOut}
 use Rattle.model.specs.Rust.{young, due, mark, row}
 use Rattle.out_list.specs.declared.OutList.{OutList}
-use Rattle.out_list.specs.Out.{abs, repr, Wf, dueRows}
+use Rattle.out_list.specs.Out.{abs, repr, Wf}
+use Rattle.out_resends.specs.Resends.{dueRows}
 use Rattle.out_list.proofs.Form.{wf-len, wf-le, wf-of}
-use Rattle.out_list.proofs.Resends.{length-flat}
+use Rattle.out_resends.proofs.Rows.{length-flat}
 use Rattle.out_list.proofs.Acks.{length-ackSingles, length-ackCumulative}
 
 pub new-kept : (r : OutList) → r ≡ repr [] → Wf r

@@ -101,14 +101,14 @@ fn give_up(o: OutList, time: u64, age: u64) -> OutList
     requires { ⌜ Wf o ⌝ }
     ensures { λ r. ⌜ Wf r ⌝ }
 {
-    out_list::drop_given_up(o, time, age)
+    out_resends::drop_given_up(o, time, age)
 }
 
 fn mark(o: OutList, time: u64, timeout: u64) -> OutList
     requires { ⌜ Wf o ⌝ }
     ensures { λ r. ⌜ Wf r ⌝ }
 {
-    out_list::mark_due(o, time, timeout)
+    out_resends::mark_due(o, time, timeout)
 }
 
 // ---- what a scene shows
@@ -173,7 +173,7 @@ fn show_due(o: OutList, time: u64, timeout: u64)
     requires { ⌜ Wf o ⌝ }
 {
     let mut rows: [u32; 64] = [0; 64];
-    let n = out_list::write_due(o, 7, time, timeout, &mut rows, 0);
+    let n = out_resends::write_due(o, 7, time, timeout, &mut rows, 0);
     let mut k: usize = 0;
     while k + 1 < n {
         print::number(rows[k + 1]);
@@ -187,7 +187,7 @@ fn resend(name: &[u8], o: OutList, time: u64, timeout: u64, age: u64)
 {
     print::text(name);
     print::text(b" rows");
-    print::number(out_list::count_due_young(o, time, timeout, age));
+    print::number(out_resends::count_due_young(o, time, timeout, age));
     print::text(b" |");
     let kept = give_up(o, time, age);
     show_due(kept, time, timeout);
@@ -341,16 +341,16 @@ pub fn tested() {
     let o = sent_at(10);
     print::test(
         b"a sent packet at the latest time:",
-        out_list::well_formed(o, 10),
+        out_test::well_formed(o, 10),
     );
     print::test(
         b"a sent packet after the latest time:",
-        out_list::well_formed(o, 9),
+        out_test::well_formed(o, 9),
     );
     let mut stale = OutList::new();
     stale.entries[0] = bare(1, 0);
     print::test(
         b"an entry past the count:",
-        out_list::well_formed(stale, 10),
+        out_test::well_formed(stale, 10),
     );
 }

@@ -1,14 +1,13 @@
 -- The numbers of the relay against RFC 1982: they agree wherever the RFC answers. Assumes nothing.
 use mathlib.Core.Path.{_≡_, refl, sym, subst}
-use mathlib.Core.Bool.{Bool, true, false}
+use mathlib.Core.Bool.{Bool, true, false, false≢true}
 use mathlib.Core.Logic.{_⊎_, inl, inr, ⊎-elim}
-use Prim.Native.Nat.{ℕ, _+_, _-_, _%_, _≤_, _<_}
+use Prim.Native.Nat.{ℕ, _-_, _≤_, _<_}
 use native.Mathlib.Omega.{arith}
 use lib.Dec.{ltb, eqb}
-use borrow.Author.Tests.{ltb-true, ltb-false, eqb-true, eqb-false, lt-ltb, le-ltb, eq-eqb, ne-eqb, leb-true, le-leb}
-use Rattle.seq.specs.declared.Order.{Order}
+use borrow.Author.Tests.{ltb-true, ltb-false, eqb-true, eqb-false, leb-true, le-leb}
 use Rattle.seq.specs.declared.Order.the-variants.{Less, Equal, Greater}
-use Rattle.seq.specs.Num.{legal, add, dist, answer, cmp, later, observeS}
+use Rattle.seq.specs.Num.{legal, add, dist, cmp, observeS}
 use Rattle.seq.proofs.Steps.{compare-equal, compare-less, compare-greater, observe-greater, observe-equal, observe-less}
 use Rattle.seq.specs.Rfc1982.{Serial, Addable, sum, Same, Before, After, Ordered}
 
@@ -37,17 +36,14 @@ answers-at a b false false p q = inr (inr (rw (p, q), eqb-false a b p, ltb-false
 answers : (a b : ℕ) → Answers a b
 answers a b = answers-at a b (eqb a b) (ltb 0x800_0000 (dist a b)) refl refl
 
-never : {P : Type 0} → _≡_ {A = ℕ} 0 1 → P
-never z = absurd (omega arith)
-
 told-equal : (a b : ℕ) → cmp a b ≡ Equal → a ≡ b
-told-equal a b q = ⊎-elim (λ w. w .1) (⊎-elim (λ w. never (cc)) (λ w. never (cc))) (answers a b)
+told-equal a b q = ⊎-elim (λ w. w .1) (⊎-elim (λ w. absurd (false≢true (cc))) (λ w. absurd (false≢true (cc)))) (answers a b)
 
 told-less : (a b : ℕ) → cmp a b ≡ Less → 0x800_0000 < dist a b
-told-less a b q = ⊎-elim (λ w. never (cc)) (⊎-elim (λ w. w .2) (λ w. never (cc))) (answers a b)
+told-less a b q = ⊎-elim (λ w. absurd (false≢true (cc))) (⊎-elim (λ w. w .2) (λ w. absurd (false≢true (cc)))) (answers a b)
 
 told-greater : (a b : ℕ) → cmp a b ≡ Greater → (a ≡ b → ⊥) × (dist a b ≤ 0x800_0000)
-told-greater a b q = ⊎-elim (λ w. never (cc)) (⊎-elim (λ w. never (cc)) (λ w. (w .1, w .2))) (answers a b)
+told-greater a b q = ⊎-elim (λ w. absurd (false≢true (cc))) (⊎-elim (λ w. absurd (false≢true (cc))) (λ w. (w .1, w .2))) (answers a b)
 
 side-at : (a b : ℕ) (t : Bool) → ltb a b ≡ t → (a < b) ⊎ (b ≤ a)
 side-at a b true q = inl (ltb-true a b q)
@@ -142,7 +138,7 @@ pub observe-not-back : (next seq : ℕ) → Serial next → Before (observeS nex
 observe-not-back next seq s b =
     let x = observeS next seq in
     let l : cmp x next ≡ Less = less-iff x next (observe-serial next seq s) s .1 b in
-    ⊎-elim (λ e. never (cc (compare-equal x next e))) (λ g. never (cc)) (stays-or-greater next seq)
+    ⊎-elim (λ e. absurd (false≢true (cc (compare-equal x next e)))) (λ g. absurd (false≢true (cc))) (stays-or-greater next seq)
 
 -- .. and forward, where it moves and the RFC orders the pair
 pub observe-forward : (next seq : ℕ) → Serial next → Ordered (observeS next seq) next → Same (observeS next seq) next ⊎ After (observeS next seq) next

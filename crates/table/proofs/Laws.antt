@@ -1,13 +1,10 @@
 -- What a call reads and stores in the one table of a state: a channel at its place, and the state with a channel put. Assumes nothing.
-use mathlib.Core.Path.{_≡_, refl, ap, sym, _∙_}
-use mathlib.Core.Bool.{Bool, true, false, cond}
-use mathlib.Core.List.{List, [], _∷_, map}
-use Prim.Native.Nat.{ℕ, suc, _+_, _≤_, _<_}
+use mathlib.Core.Path.{_≡_, ap, sym, _∙_}
+use Prim.Native.Nat.{ℕ, _+_, _≤_, _<_}
 use native.Mathlib.Omega.{arith}
 use native.Mathlib.Numerals.{add-one}
 use lib.ListN.{length, getD, set}
-use Rattle.lists.specs.Pad.{pad}
-use Rattle.lists.specs.Find.{findBy, putBy, slotOf}
+use Rattle.lists.specs.Find.{slotOf}
 use Rattle.lists.proofs.Slot.{find-slot, length-put, length-put-old, read-slot, read-spare, set-slot}
 use Rattle.model.specs.State as model
 use Rattle.channel.specs.declared.OffChannel.{OffChannel}

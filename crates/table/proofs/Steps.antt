@@ -24,12 +24,13 @@ use Rattle.model.specs.State as model
 use Rattle.model.specs.Wellformed.{distinct, sameOff, sameOn}
 use Rattle.channel.specs.declared.OffChannel.{OffChannel}
 use Rattle.channel.specs.declared.OnChannel.{OnChannel}
-use Rattle.channel.specs.Channel.{absOff, absOn, goodOff, goodOn, idleOff, idleOn}
+use Rattle.channel.specs.Channel.{absOff, absOn, offTest, onTest, idleOff, idleOn}
 use Rattle.table.specs.declared.Table.{Table}
 use Rattle.table.specs.declared.Keys.{Keys}
 use Rattle.table.specs.declared.OnKey.{OnKey}
 use Rattle.table.specs.Keys.{isAddress, isKey, sameKey, offKey, onKey, keysOf}
 use Rattle.table.specs.Table.{repr, zeroOff, zeroOn, spareOff, spareOn, offsGood, onsGood, wfb}
+use Rattle.table.proofs.Outside.{outsideOff, outsideOn}
 
 -- ---- new
 
@@ -75,58 +76,31 @@ place-is : (g u i : Bool) → g && (u || i) ≡ cond u g (g && i)
 place-is g true i = and-true g
 place-is g false i = refl
 
-pub off-place : (latest : ℕ) (c : OffChannel) (u x y : Bool) → x ≡ idleOff c → y ≡ goodOff latest c → y && (u || x) ≡ cond u (goodOff latest c) (spareOff latest c)
-off-place latest c u x y p q = (λ i. q i && (u || p i)) ∙ place-is (goodOff latest c) u (idleOff c)
+pub off-place : (latest : ℕ) (c : OffChannel) (u x y : Bool) → x ≡ idleOff c → y ≡ offTest latest c → y && (u || x) ≡ cond u (offTest latest c) (spareOff latest c)
+off-place latest c u x y p q = (λ i. q i && (u || p i)) ∙ place-is (offTest latest c) u (idleOff c)
 
-pub on-place : (latest : ℕ) (c : OnChannel) (u x y : Bool) → x ≡ idleOn c → y ≡ goodOn latest c → y && (u || x) ≡ cond u (goodOn latest c) (spareOn latest c)
-on-place latest c u x y p q = (λ i. q i && (u || p i)) ∙ place-is (goodOn latest c) u (idleOn c)
+pub on-place : (latest : ℕ) (c : OnChannel) (u x y : Bool) → x ≡ idleOn c → y ≡ onTest latest c → y && (u || x) ≡ cond u (onTest latest c) (spareOn latest c)
+on-place latest c u x y p q = (λ i. q i && (u || p i)) ∙ place-is (onTest latest c) u (idleOn c)
 
 pub ruleset placing = (off-place, on-place, needs)
 
--- what stands past the end of an array
-abbrev outsideOff : OffChannel
-outsideOff =
-    record {
-      address = 0;
-      out = record { len = 0; entries = [] };
-      acks = record { len = 0; numbers = [] };
-      groups = record { len = 0; groups = [] };
-      bundles = record { len = 0; total = 0; lengths = []; handles = [] };
-    }
+pub offs-turn : (l : List OffChannel) (n latest : ℕ) (good : Bool) (i : ℕ) (b : Bool) → Testing (offTest latest) (spareOff latest) 4 n l good i → i < 4 → b ≡ cond (ltb i n) (offTest latest (getD l i outsideOff)) (spareOff latest (getD l i outsideOff)) → Testing (offTest latest) (spareOff latest) 4 n l (good && b) (i + 1)
+offs-turn l n latest good i b w h e = testing-step (offTest latest) (spareOff latest) 4 n l good i outsideOff b w h e
 
-abbrev outsideOn : OnChannel
-outsideOn =
-    record {
-      address = 0;
-      index = 0;
-      version = 0;
-      expected = 0;
-      source = 0;
-      out = record { len = 0; entries = [] };
-      acks = record { len = 0; numbers = [] };
-      groups = record { len = 0; groups = [] };
-      bundles = record { len = 0; total = 0; lengths = []; handles = [] };
-      buffer = record { len = 0; packets = [] };
-      queue = record { len = 0; packets = [] };
-    }
+pub ons-turn : (l : List OnChannel) (n latest : ℕ) (good : Bool) (i : ℕ) (b : Bool) → Testing (onTest latest) (spareOn latest) 8 n l good i → i < 8 → b ≡ cond (ltb i n) (onTest latest (getD l i outsideOn)) (spareOn latest (getD l i outsideOn)) → Testing (onTest latest) (spareOn latest) 8 n l (good && b) (i + 1)
+ons-turn l n latest good i b w h e = testing-step (onTest latest) (spareOn latest) 8 n l good i outsideOn b w h e
 
-pub offs-turn : (l : List OffChannel) (n latest : ℕ) (good : Bool) (i : ℕ) (b : Bool) → Testing (goodOff latest) (spareOff latest) 4 n l good i → i < 4 → b ≡ cond (ltb i n) (goodOff latest (getD l i outsideOff)) (spareOff latest (getD l i outsideOff)) → Testing (goodOff latest) (spareOff latest) 4 n l (good && b) (i + 1)
-offs-turn l n latest good i b w h e = testing-step (goodOff latest) (spareOff latest) 4 n l good i outsideOff b w h e
-
-pub ons-turn : (l : List OnChannel) (n latest : ℕ) (good : Bool) (i : ℕ) (b : Bool) → Testing (goodOn latest) (spareOn latest) 8 n l good i → i < 8 → b ≡ cond (ltb i n) (goodOn latest (getD l i outsideOn)) (spareOn latest (getD l i outsideOn)) → Testing (goodOn latest) (spareOn latest) 8 n l (good && b) (i + 1)
-ons-turn l n latest good i b w h e = testing-step (goodOn latest) (spareOn latest) 8 n l good i outsideOn b w h e
-
-pub offs-end : (l : List OffChannel) (n latest : ℕ) (good : Bool) (i : ℕ) → Testing (goodOff latest) (spareOff latest) 4 n l good i → 4 ≤ i → good ≡ offsGood l n latest
+pub offs-end : (l : List OffChannel) (n latest : ℕ) (good : Bool) (i : ℕ) → Testing (offTest latest) (spareOff latest) 4 n l good i → 4 ≤ i → good ≡ offsGood l n latest
 unfolding offsGood
 offs-end l n latest good i w h =
-    testing-end (goodOff latest) (spareOff latest) 4 n l good i w h
-    ∙ sym (ap (λ (x : Bool). x && allb (goodOff latest) (take n l) && allb (spareOff latest) (drop n l)) (eq-eqb (length l) 4 (w .size)))
+    testing-end (offTest latest) (spareOff latest) 4 n l good i w h
+    ∙ sym (ap (λ (x : Bool). x && allb (offTest latest) (take n l) && allb (spareOff latest) (drop n l)) (eq-eqb (length l) 4 (w .size)))
 
-pub ons-end : (l : List OnChannel) (n latest : ℕ) (good : Bool) (i : ℕ) → Testing (goodOn latest) (spareOn latest) 8 n l good i → 8 ≤ i → good ≡ onsGood l n latest
+pub ons-end : (l : List OnChannel) (n latest : ℕ) (good : Bool) (i : ℕ) → Testing (onTest latest) (spareOn latest) 8 n l good i → 8 ≤ i → good ≡ onsGood l n latest
 unfolding onsGood
 ons-end l n latest good i w h =
-    testing-end (goodOn latest) (spareOn latest) 8 n l good i w h
-    ∙ sym (ap (λ (x : Bool). x && allb (goodOn latest) (take n l) && allb (spareOn latest) (drop n l)) (eq-eqb (length l) 8 (w .size)))
+    testing-end (onTest latest) (spareOn latest) 8 n l good i w h
+    ∙ sym (ap (λ (x : Bool). x && allb (onTest latest) (take n l) && allb (spareOn latest) (drop n l)) (eq-eqb (length l) 8 (w .size)))
 
 pub ruleset testing = (testing-start, offs-end, ons-end, length-of-map, needs)
 

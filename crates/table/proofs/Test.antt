@@ -21,7 +21,7 @@ use Rattle.model.specs.Room.{fitsOff, fitsOn, fits}
 use Rattle.model.specs.Wellformed.{distinct, offGood, onGood, sameOff, sameOn, good, wellFormed}
 use Rattle.channel.specs.declared.OffChannel.{OffChannel}
 use Rattle.channel.specs.declared.OnChannel.{OnChannel}
-use Rattle.channel.specs.Channel.{absOff, reprOff, absOn, reprOn, goodOff, goodOn, idleOff, idleOn}
+use Rattle.channel.specs.Channel.{absOff, reprOff, absOn, reprOn, offTest, onTest, idleOff, idleOn}
 use Rattle.channel.proofs.Laws.{form-off, form-on, wf-fits-off, wf-fits-on, abs-repr-off, abs-repr-on, repr-wf-off, repr-wf-on}
 use Rattle.channel.proofs.Test.{off-good-wf, off-good-model, off-wf-good, on-good-wf, on-good-model, on-wf-good, idle-off-zero, idle-on-zero, zero-off-good, zero-on-good, zero-idle-off, zero-idle-on}
 use Rattle.table.specs.declared.Table.{Table}
@@ -87,9 +87,9 @@ pub record Parts (t : Table) : Type 0 where
   pub few-ons : t .oncount ≤ 8
   pub four : length (t .offs) ≡ 4
   pub eight : length (t .ons) ≡ 8
-  pub offs : allb (goodOff (t .latest)) (take (t .offcount) (t .offs)) ≡ true
+  pub offs : allb (offTest (t .latest)) (take (t .offcount) (t .offs)) ≡ true
   pub spare-offs : allb (spareOff (t .latest)) (drop (t .offcount) (t .offs)) ≡ true
-  pub ons : allb (goodOn (t .latest)) (take (t .oncount) (t .ons)) ≡ true
+  pub ons : allb (onTest (t .latest)) (take (t .oncount) (t .ons)) ≡ true
   pub spare-ons : allb (spareOn (t .latest)) (drop (t .oncount) (t .ons)) ≡ true
   pub offs-apart : distinct sameOff (map absOff (take (t .offcount) (t .offs))) ≡ true
   pub ons-apart : distinct sameOn (map absOn (take (t .oncount) (t .ons))) ≡ true
@@ -99,10 +99,10 @@ unfolding wfb offsGood onsGood
 test-parts t q =
     let n = numbersGood t in
     let x = eqb (length (t .offs)) 4 in
-    let a = allb (goodOff (t .latest)) (take (t .offcount) (t .offs)) in
+    let a = allb (offTest (t .latest)) (take (t .offcount) (t .offs)) in
     let b = allb (spareOff (t .latest)) (drop (t .offcount) (t .offs)) in
     let y = eqb (length (t .ons)) 8 in
-    let c = allb (goodOn (t .latest)) (take (t .oncount) (t .ons)) in
+    let c = allb (onTest (t .latest)) (take (t .oncount) (t .ons)) in
     let d = allb (spareOn (t .latest)) (drop (t .oncount) (t .ons)) in
     let e = distinct sameOff (map absOff (take (t .offcount) (t .offs))) in
     let f = distinct sameOn (map absOn (take (t .oncount) (t .ons))) in
@@ -152,10 +152,10 @@ flag-form (suc zero) q = refl
 flag-form (suc (suc f)) q = absurd (omega (arith, leb-true (suc (suc f)) 1 q))
 
 spare-zero-off : (latest : ℕ) (c : OffChannel) → spareOff latest c ≡ true → c ≡ zeroOff
-spare-zero-off latest c q = idle-off-zero latest c (and-left (goodOff latest c) (idleOff c) q) (and-right (goodOff latest c) (idleOff c) q)
+spare-zero-off latest c q = idle-off-zero latest c (and-left (offTest latest c) (idleOff c) q) (and-right (offTest latest c) (idleOff c) q)
 
 spare-zero-on : (latest : ℕ) (c : OnChannel) → spareOn latest c ≡ true → c ≡ zeroOn
-spare-zero-on latest c q = idle-on-zero latest c (and-left (goodOn latest c) (idleOn c) q) (and-right (goodOn latest c) (idleOn c) q)
+spare-zero-on latest c q = idle-on-zero latest c (and-left (onTest latest c) (idleOn c) q) (and-right (onTest latest c) (idleOn c) q)
 
 abbrev offAgain : OffChannel → OffChannel
 offAgain c = reprOff (absOff c)
@@ -163,17 +163,17 @@ offAgain c = reprOff (absOff c)
 abbrev onAgain : OnChannel → OnChannel
 onAgain c = reprOn (absOn c)
 
-offs-form : (latest : ℕ) (l : List OffChannel) (n : ℕ) → length l ≡ 4 → allb (goodOff latest) (take n l) ≡ true → allb (spareOff latest) (drop n l) ≡ true → l ≡ pad 4 zeroOff (map reprOff (map absOff (take n l)))
+offs-form : (latest : ℕ) (l : List OffChannel) (n : ℕ) → length l ≡ 4 → allb (offTest latest) (take n l) ≡ true → allb (spareOff latest) (drop n l) ≡ true → l ≡ pad 4 zeroOff (map reprOff (map absOff (take n l)))
 offs-form latest l n e g s =
     pad-of-tail (spareOff latest) zeroOff (spare-zero-off latest) l n s
     ∙ ap (λ (k : ℕ). pad k zeroOff (take n l)) e
-    ∙ ap (λ (r : List OffChannel). pad 4 zeroOff r) (map-kept (goodOff latest) offAgain (take n l) (λ c q. form-off c (off-good-wf latest c q)) g ∙ sym (map-map reprOff absOff (take n l)))
+    ∙ ap (λ (r : List OffChannel). pad 4 zeroOff r) (map-kept (offTest latest) offAgain (take n l) (λ c q. form-off c (off-good-wf latest c q)) g ∙ sym (map-map reprOff absOff (take n l)))
 
-ons-form : (latest : ℕ) (l : List OnChannel) (n : ℕ) → length l ≡ 8 → allb (goodOn latest) (take n l) ≡ true → allb (spareOn latest) (drop n l) ≡ true → l ≡ pad 8 zeroOn (map reprOn (map absOn (take n l)))
+ons-form : (latest : ℕ) (l : List OnChannel) (n : ℕ) → length l ≡ 8 → allb (onTest latest) (take n l) ≡ true → allb (spareOn latest) (drop n l) ≡ true → l ≡ pad 8 zeroOn (map reprOn (map absOn (take n l)))
 ons-form latest l n e g s =
     pad-of-tail (spareOn latest) zeroOn (spare-zero-on latest) l n s
     ∙ ap (λ (k : ℕ). pad k zeroOn (take n l)) e
-    ∙ ap (λ (r : List OnChannel). pad 8 zeroOn r) (map-kept (goodOn latest) onAgain (take n l) (λ c q. form-on c (on-good-wf latest c q)) g ∙ sym (map-map reprOn absOn (take n l)))
+    ∙ ap (λ (r : List OnChannel). pad 8 zeroOn r) (map-kept (onTest latest) onAgain (take n l) (λ c q. form-on c (on-good-wf latest c q)) g ∙ sym (map-map reprOn absOn (take n l)))
 
 module _ (t : Table) (p : Parts t) where
   offs-count : length (map absOff (take (t .offcount) (t .offs))) ≡ t .offcount
@@ -212,10 +212,10 @@ module _ (t : Table) (p : Parts t) where
       record {
         few-offs = omega (arith, offs-count, p .few-offs);
         few-ons = omega (arith, ons-count, p .few-ons);
-        offs-fit = allb-map fitsOff absOff u ∙ allb-weaken (goodOff (t .latest)) (λ c. fitsOff (absOff c)) (λ c q. wf-fits-off c (off-good-wf (t .latest) c q)) u (p .offs);
-        ons-fit = allb-map fitsOn absOn v ∙ allb-weaken (goodOn (t .latest)) (λ c. fitsOn (absOn c)) (λ c q. wf-fits-on c (on-good-wf (t .latest) c q)) v (p .ons);
-        offs-good = allb-map (offGood (t .latest)) absOff u ∙ allb-weaken (goodOff (t .latest)) (λ c. offGood (t .latest) (absOff c)) (off-good-model (t .latest)) u (p .offs);
-        ons-good = allb-map (onGood (t .latest)) absOn v ∙ allb-weaken (goodOn (t .latest)) (λ c. onGood (t .latest) (absOn c)) (on-good-model (t .latest)) v (p .ons);
+        offs-fit = allb-map fitsOff absOff u ∙ allb-weaken (offTest (t .latest)) (λ c. fitsOff (absOff c)) (λ c q. wf-fits-off c (off-good-wf (t .latest) c q)) u (p .offs);
+        ons-fit = allb-map fitsOn absOn v ∙ allb-weaken (onTest (t .latest)) (λ c. fitsOn (absOn c)) (λ c q. wf-fits-on c (on-good-wf (t .latest) c q)) v (p .ons);
+        offs-good = allb-map (offGood (t .latest)) absOff u ∙ allb-weaken (offTest (t .latest)) (λ c. offGood (t .latest) (absOff c)) (off-good-model (t .latest)) u (p .offs);
+        ons-good = allb-map (onGood (t .latest)) absOn v ∙ allb-weaken (onTest (t .latest)) (λ c. onGood (t .latest) (absOn c)) (on-good-model (t .latest)) v (p .ons);
         offs-apart = p .offs-apart;
         ons-apart = p .ons-apart;
         source = p .source;
@@ -226,10 +226,10 @@ test-wf t q = let p = test-parts t q in record { form = parts-form t p; meets = 
 
 -- ---- the one form of a well-formed state passes the test
 
-repr-good-off : (latest : ℕ) (m : model.OffChannel) → fitsOff m ≡ true → offGood latest m ≡ true → goodOff latest (reprOff m) ≡ true
+repr-good-off : (latest : ℕ) (m : model.OffChannel) → fitsOff m ≡ true → offGood latest m ≡ true → offTest latest (reprOff m) ≡ true
 repr-good-off latest m f g = off-wf-good latest (reprOff m) (repr-wf-off m f) (ap (λ (x : model.OffChannel). offGood latest x) (abs-repr-off m f) ∙ g)
 
-repr-good-on : (latest : ℕ) (m : model.OnChannel) → fitsOn m ≡ true → onGood latest m ≡ true → goodOn latest (reprOn m) ≡ true
+repr-good-on : (latest : ℕ) (m : model.OnChannel) → fitsOn m ≡ true → onGood latest m ≡ true → onTest latest (reprOn m) ≡ true
 repr-good-on latest m f g = on-wf-good latest (reprOn m) (repr-wf-on m f) (ap (λ (x : model.OnChannel). onGood latest x) (abs-repr-on m f) ∙ g)
 
 zero-spare-off : (latest : ℕ) → spareOff latest zeroOff ≡ true
@@ -238,19 +238,19 @@ zero-spare-off latest = λ i. zero-off-good latest i && zero-idle-off zeroOff re
 zero-spare-on : (latest : ℕ) → spareOn latest zeroOn ≡ true
 zero-spare-on latest = λ i. zero-on-good latest i && zero-idle-on zeroOn refl i
 
-offs-pass : (latest : ℕ) (l : List OffChannel) (n : ℕ) (ms : List model.OffChannel) → l ≡ pad 4 zeroOff (map reprOff ms) → n ≡ length ms → length ms ≤ 4 → allb fitsOff ms ≡ true → allb (offGood latest) ms ≡ true → allb (goodOff latest) (take n l) ≡ true
+offs-pass : (latest : ℕ) (l : List OffChannel) (n : ℕ) (ms : List model.OffChannel) → l ≡ pad 4 zeroOff (map reprOff ms) → n ≡ length ms → length ms ≤ 4 → allb fitsOff ms ≡ true → allb (offGood latest) ms ≡ true → allb (offTest latest) (take n l) ≡ true
 offs-pass latest l n ms p q h f g =
-    (λ i. allb (goodOff latest) (take (q i) (p i)))
-    ∙ ap (λ (r : List OffChannel). allb (goodOff latest) r) (take-pad-map reprOff 4 zeroOff ms h)
-    ∙ allb-map (goodOff latest) reprOff ms
-    ∙ allb-so-two fitsOff (offGood latest) (λ m. goodOff latest (reprOff m)) (repr-good-off latest) ms f g
+    (λ i. allb (offTest latest) (take (q i) (p i)))
+    ∙ ap (λ (r : List OffChannel). allb (offTest latest) r) (take-pad-map reprOff 4 zeroOff ms h)
+    ∙ allb-map (offTest latest) reprOff ms
+    ∙ allb-so-two fitsOff (offGood latest) (λ m. offTest latest (reprOff m)) (repr-good-off latest) ms f g
 
-ons-pass : (latest : ℕ) (l : List OnChannel) (n : ℕ) (ms : List model.OnChannel) → l ≡ pad 8 zeroOn (map reprOn ms) → n ≡ length ms → length ms ≤ 8 → allb fitsOn ms ≡ true → allb (onGood latest) ms ≡ true → allb (goodOn latest) (take n l) ≡ true
+ons-pass : (latest : ℕ) (l : List OnChannel) (n : ℕ) (ms : List model.OnChannel) → l ≡ pad 8 zeroOn (map reprOn ms) → n ≡ length ms → length ms ≤ 8 → allb fitsOn ms ≡ true → allb (onGood latest) ms ≡ true → allb (onTest latest) (take n l) ≡ true
 ons-pass latest l n ms p q h f g =
-    (λ i. allb (goodOn latest) (take (q i) (p i)))
-    ∙ ap (λ (r : List OnChannel). allb (goodOn latest) r) (take-pad-map reprOn 8 zeroOn ms h)
-    ∙ allb-map (goodOn latest) reprOn ms
-    ∙ allb-so-two fitsOn (onGood latest) (λ m. goodOn latest (reprOn m)) (repr-good-on latest) ms f g
+    (λ i. allb (onTest latest) (take (q i) (p i)))
+    ∙ ap (λ (r : List OnChannel). allb (onTest latest) r) (take-pad-map reprOn 8 zeroOn ms h)
+    ∙ allb-map (onTest latest) reprOn ms
+    ∙ allb-so-two fitsOn (onGood latest) (λ m. onTest latest (reprOn m)) (repr-good-on latest) ms f g
 
 offs-spare : (latest : ℕ) (l : List OffChannel) (n : ℕ) (ms : List model.OffChannel) → l ≡ pad 4 zeroOff (map reprOff ms) → n ≡ length ms → allb (spareOff latest) (drop n l) ≡ true
 offs-spare latest l n ms p q =

@@ -12,7 +12,7 @@ use Rattle.model.specs.State as model
 use Rattle.model.specs.Wellformed.{distinct, sameOff, sameOn, wellFormed}
 use Rattle.channel.specs.declared.OffChannel.{OffChannel}
 use Rattle.channel.specs.declared.OnChannel.{OnChannel}
-use Rattle.channel.specs.Channel.{absOff, reprOff, absOn, reprOn, goodOff, goodOn, idleOff, idleOn}
+use Rattle.channel.specs.Channel.{absOff, reprOff, absOn, reprOn, offTest, onTest, idleOff, idleOn}
 use Rattle.table.specs.declared.Table.{Table}
 
 -- an unused place: all zero
@@ -53,6 +53,21 @@ repr s =
       ons = pad 8 zeroOn (map reprOn (s .protocol .ons));
     }
 
+-- the table at another time
+abbrev pub timeSet : ℕ → Table → Table
+timeSet time t =
+    record {
+      latest = time;
+      forwarding = t .forwarding;
+      prefix = t .prefix;
+      offset = t .offset;
+      source = t .source;
+      offcount = t .offcount;
+      oncount = t .oncount;
+      offs = t .offs;
+      ons = t .ons;
+    }
+
 -- "A table is well formed if ..": it is the one form of its state, and the state meets 01's list
 pub record Wf (t : Table) : Type 0 where
   pub form : t ≡ repr (abs t)
@@ -66,17 +81,17 @@ numbersGood t = isFlag (t .forwarding) && legal (t .source) && leb (t .offcount)
 
 -- "unused places are zero": an idle channel that passes its test is all zero
 abbrev pub spareOff : ℕ → OffChannel → Bool
-spareOff latest c = goodOff latest c && idleOff c
+spareOff latest c = offTest latest c && idleOff c
 
 abbrev pub spareOn : ℕ → OnChannel → Bool
-spareOn latest c = goodOn latest c && idleOn c
+spareOn latest c = onTest latest c && idleOn c
 
 -- the array has its length, as every value of its type has; each of the first n channels is good at the latest time, each after them unused
 unfoldable pub offsGood : List OffChannel → ℕ → ℕ → Bool
-offsGood l n latest = eqb (length l) 4 && allb (goodOff latest) (take n l) && allb (spareOff latest) (drop n l)
+offsGood l n latest = eqb (length l) 4 && allb (offTest latest) (take n l) && allb (spareOff latest) (drop n l)
 
 unfoldable pub onsGood : List OnChannel → ℕ → ℕ → Bool
-onsGood l n latest = eqb (length l) 8 && allb (goodOn latest) (take n l) && allb (spareOn latest) (drop n l)
+onsGood l n latest = eqb (length l) 8 && allb (onTest latest) (take n l) && allb (spareOn latest) (drop n l)
 
 -- "keys distinct"
 abbrev pub keysDistinct : Table → Bool

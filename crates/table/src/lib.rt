@@ -12,7 +12,7 @@ ghost use Rattle.seq.specs.Num as Num;
 ghost use Rattle.packet.specs.Data.{isFlag};
 ghost use Rattle.model.specs.State as model;
 ghost use Rattle.model.specs.Wellformed.{distinct};
-ghost use Rattle.channel.specs.Channel.{goodOff, goodOn};
+ghost use Rattle.channel.specs.Channel.{offTest, onTest};
 ghost use Rattle.table.specs.Keys.{isKey, isAddress, sameKey, offKey, onKey, keysOf};
 ghost use Rattle.table.specs.Table.{repr, spareOff, spareOn, offsGood, onsGood, wfb};
 
@@ -162,7 +162,7 @@ fn numbers_good(forwarding: u32, source: u32, offcount: u32, oncount: u32) -> bo
 
 // A channel in use, or an unused one.
 fn off_place_good(c: OffChannel, used: bool, latest: u64) -> bool
-    ensures { λ r. ⌜ r ≡ cond used (goodOff latest c) (spareOff latest c) ⌝ }
+    ensures { λ r. ⌜ r ≡ cond used (offTest latest c) (spareOff latest c) ⌝ }
 {
     let idle = channel::off_idle(c);
     let good = channel::off_well_formed(c, latest);
@@ -170,7 +170,7 @@ fn off_place_good(c: OffChannel, used: bool, latest: u64) -> bool
 }
 
 fn on_place_good(c: OnChannel, used: bool, latest: u64) -> bool
-    ensures { λ r. ⌜ r ≡ cond used (goodOn latest c) (spareOn latest c) ⌝ }
+    ensures { λ r. ⌜ r ≡ cond used (onTest latest c) (spareOn latest c) ⌝ }
 {
     let idle = channel::on_idle(c);
     let good = channel::on_well_formed(c, latest);

@@ -10,7 +10,7 @@ use lib.ListN.{length, drop, length-take}
 use lib.Seq.{length-take-le}
 use borrow.Author.Tests.{le-leb, eq-eqb, eqb-true, leb-true}
 use Rattle.lists.specs.Pad.{pad, allb}
-use Rattle.lists.proofs.Pad.{length-pad, take-pad, and-left, and-right, pad-of-tail, tail-of-pad}
+use Rattle.lists.proofs.Pad.{never, length-pad, take-pad, and-left, and-right, pad-of-tail, tail-of-pad}
 use Rattle.seq.specs.declared.Order.{Order}
 use Rattle.seq.specs.declared.Order.the-variants.{Less, Equal, Greater}
 use Rattle.packet.specs.declared.Packet.{Packet}
@@ -50,7 +50,7 @@ wf-repr xs h = ap repr (sym (abs-repr xs h))
 
 look-le : (o : Order) (i k : ℕ) (front : Place) → look o i front ≡ At k → (front ≡ At k → k ≤ i) → k ≤ suc i
 look-le Less i k front q h = omega (arith, h q)
-look-le Equal i k front q h = let z : _≡_ {A = ℕ} 0 1 = cc in absurd (omega arith)
+look-le Equal i k front q h = never (cc)
 look-le Greater i k front q h =
     let p : suc i ≡ k = cc in
     omega arith

@@ -6,8 +6,8 @@ use Prim.Native.Nat.{ℕ, suc, _+_, _-_, _≤_, _<_}
 use native.Mathlib.Omega.{arith}
 use native.Mathlib.Numerals.{add-one}
 use lib.Dec.{eqb, leb, ltb}
-use lib.ListN.{length, getD, set, drop, replicate, length-take, length-drop, drop-of-length-le}
-use lib.Seq.{drop-cons, getD-take, getD-drop}
+use lib.ListN.{length, getD, set, take, drop, replicate, length-take, length-drop, drop-of-length-le}
+use lib.Seq.{drop-cons, getD-take, getD-drop, length-take-le}
 use borrow.Author.Tests.{lt-ltb, le-ltb, le-leb, lt-leb, eq-eqb, ne-eqb, not-true, not-false}
 use Rattle.lists.specs.Pad.{allb}
 use Rattle.lists.specs.Find.{has}
@@ -106,41 +106,46 @@ module _ (w : Waiting) (h : ℕ) where
     pub holds-end : w .len ≤ i → false ≡ has (holdsPacket h) (abs w)
     holds-end m = sym (asking-end (holdsPacket h) noPacket 32 (w .packets) (w .len) i s m)
 
--- ---- the loop of `drop_front`: r has the first j of those that stay
+-- ---- the loop of `drop_front`, of the first n in an array l of any length N: r has the first j of those that stay
 
-pub record Dropping (w : Waiting) (k : ℕ) (r : Waiting) (j : ℕ) : Type 0 where
-  pub whole : k + j ≤ w .len
-  pub room : w .len ≤ 32
-  pub size : length (w .packets) ≡ 32
-  pub copied : Copying 32 noPacket [] (drop k (abs w)) 0 (w .len - k) (r .packets) j
+pub record Dropping (N n : ℕ) (l : List Packet) (k : ℕ) (r : Waiting) (j : ℕ) : Type 0 where
+  pub whole : k + j ≤ n
+  pub room : n ≤ N
+  pub few : n ≤ k + 32
+  pub size : length l ≡ N
+  pub copied : Copying 32 noPacket [] (drop k (take n l)) 0 (n - k) (r .packets) j
 
-pub drop-start : (w : Waiting) (k : ℕ) (r : Waiting) → Wf w → k ≤ length (abs w) → r ≡ repr [] → Dropping w k r 0
-drop-start w k r f h q =
+pub dropping-start : (N n : ℕ) (l : List Packet) (k : ℕ) (r : Waiting) → n ≤ N → length l ≡ N → k ≤ n → n ≤ k + 32 → r ≡ repr [] → Dropping N n l k r 0
+dropping-start N n l k r room size h few q =
+    let t : length (take n l) ≡ n = length-take-le n l (omega (arith, size)) in
     record {
-      whole = omega (arith, wf-len w f);
-      room = wf-len-le w f;
-      size = wf-length w f;
-      copied =
-          copying-start 32 noPacket [] (drop k (abs w)) 0 (w .len - k) (r .packets) refl (omega (arith, wf-len w f, length-drop k (abs w))) (omega (arith, wf-len-le w f))
-          (ap (λ (v : Waiting). v .packets) q);
+      whole = omega arith;
+      room = room;
+      few = few;
+      size = size;
+      copied = copying-start 32 noPacket [] (drop k (take n l)) 0 (n - k) (r .packets) refl (omega (arith, t, length-drop k (take n l))) (omega arith) (ap (λ (v : Waiting). v .packets) q);
     }
 
-pub drop-step : (w : Waiting) (k : ℕ) (r : Waiting) (j : ℕ) → Dropping w k r j → k + j < w .len → Dropping w k (record { len = r .len; packets = set (r .packets) j (getD (w .packets) (k + j) noPacket) }) (j + 1)
-drop-step w k r j s h =
-    let v = getD (w .packets) (k + j) noPacket in
-    let e : v ≡ getD (drop k (abs w)) j noPacket = sym (getD-drop k (abs w) j noPacket ∙ getD-take (w .len) (w .packets) (k + j) noPacket h) in
+pub dropping-step : (N n : ℕ) (l : List Packet) (k : ℕ) (r : Waiting) (j : ℕ) → Dropping N n l k r j → k + j < n → Dropping N n l k (record { len = r .len; packets = set (r .packets) j (getD l (k + j) noPacket) }) (j + 1)
+dropping-step N n l k r j s h =
+    let v = getD l (k + j) noPacket in
+    let e : v ≡ getD (drop k (take n l)) j noPacket = sym (getD-drop k (take n l) j noPacket ∙ getD-take n l (k + j) noPacket h) in
     let z : 0 + j ≡ j = omega arith in
     record {
       whole = omega arith;
       room = s .room;
+      few = s .few;
       size = s .size;
-      copied = rw z at (copying-step 32 noPacket [] (drop k (abs w)) 0 (w .len - k) (r .packets) j v (s .copied) (omega arith) e);
+      copied = rw z at (copying-step 32 noPacket [] (drop k (take n l)) 0 (n - k) (r .packets) j v (s .copied) (omega arith) e);
     }
 
-pub drop-done : (w : Waiting) (k : ℕ) (r : Waiting) (j : ℕ) → Dropping w k r j → w .len ≤ k + j → _≡_ {A = Waiting} (record { len = j; packets = r .packets }) (repr (drop k (abs w)))
-drop-done w k r j s h =
-    let l : length (drop k (abs w)) ≡ j = omega (arith, s .whole, s .copied .count) in
-    cc (l, copying-end 32 noPacket [] (drop k (abs w)) 0 (w .len - k) (r .packets) j (s .copied) (omega (arith, s .whole)))
+pub dropping-end : (N n : ℕ) (l : List Packet) (k : ℕ) (r : Waiting) (j : ℕ) → Dropping N n l k r j → n ≤ k + j → _≡_ {A = Waiting} (record { len = j; packets = r .packets }) (repr (drop k (take n l)))
+dropping-end N n l k r j s h =
+    let d : length (drop k (take n l)) ≡ j = omega (arith, s .whole, s .copied .count) in
+    cc (d, copying-end 32 noPacket [] (drop k (take n l)) 0 (n - k) (r .packets) j (s .copied) (omega (arith, s .whole)))
+
+pub drop-start : (w : Waiting) (k : ℕ) (r : Waiting) → Wf w → k ≤ length (abs w) → r ≡ repr [] → Dropping 32 (w .len) (w .packets) k r 0
+drop-start w k r f h q = dropping-start 32 (w .len) (w .packets) k r (wf-len-le w f) (wf-length w f) (omega (arith, wf-len w f)) (omega (arith, wf-len-le w f)) q
 
 -- ---- the test of the form
 

@@ -1,11 +1,12 @@
 use borrow.Author.Needs.{needs}
 use Prim.Native.Nat.{_-_}
-use Rattle.contiguous.proofs.Steps.{Leaving, left-start, left-step, left-done}
+use Rattle.waiting.proofs.Steps.{Dropping, dropping-step, dropping-end}
+use Rattle.contiguous.proofs.Steps.{left-start}
 use Rattle.contiguous.proofs.left_of.Statement.{statement}
 use Rattle.contiguous.proofs.left_of.Tie as tie
 
 abbrev Inv-loop : tie.InvT-loop
-Inv-loop at w n r₀ j₀ r j = Leaving w at r j
+Inv-loop at w n r₀ j₀ r j = Dropping 65 (w .len) (w .packets) at r j
 
 abbrev μ-loop : tie.MeasureT-loop
 μ-loop at w n r₀ j₀ r j = w .len - j
@@ -44,13 +45,13 @@ loop-less : tie.Need-loop-less Inv-loop μ-loop
 loop-less c = search needs
 
 loop-again : tie.Need-loop-again Inv-loop μ-loop
-loop-again c = search left-step
+loop-again c = search dropping-step
 
 cast-r : tie.Need-cast-r Inv-loop μ-loop
 cast-r c = search needs
 
 returns : tie.Need-returns Inv-loop μ-loop
-returns c = search left-done
+returns c = search dropping-end
 
 pub left-of-spec : {M : Type 1} → statement M
 left-of-spec =

@@ -1,13 +1,13 @@
 use Prim.Native.Nat.{_-_}
 use Rattle.lists.proofs.Looking.{Testing}
-use Rattle.channel.specs.Channel.{goodOff}
+use Rattle.channel.specs.Channel.{offTest}
 use Rattle.table.specs.Table.{spareOff}
 use Rattle.table.proofs.Steps.{offs-turn, testing}
 use Rattle.table.proofs.offs_good.Statement.{statement}
 use Rattle.table.proofs.offs_good.Tie as tie
 
 abbrev Inv-loop : tie.InvT-loop
-Inv-loop n latest l good₀ i₀ good i = Testing (goodOff latest) (spareOff latest) 4 n l good i
+Inv-loop n latest l good₀ i₀ good i = Testing (offTest latest) (spareOff latest) 4 n l good i
 
 abbrev μ-loop : tie.MeasureT-loop
 μ-loop n latest l good₀ i₀ good i = 4 - i

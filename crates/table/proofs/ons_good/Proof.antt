@@ -1,13 +1,13 @@
 use Prim.Native.Nat.{_-_}
 use Rattle.lists.proofs.Looking.{Testing}
-use Rattle.channel.specs.Channel.{goodOn}
+use Rattle.channel.specs.Channel.{onTest}
 use Rattle.table.specs.Table.{spareOn}
 use Rattle.table.proofs.Steps.{ons-turn, testing}
 use Rattle.table.proofs.ons_good.Statement.{statement}
 use Rattle.table.proofs.ons_good.Tie as tie
 
 abbrev Inv-loop : tie.InvT-loop
-Inv-loop n latest l good₀ i₀ good i = Testing (goodOn latest) (spareOn latest) 8 n l good i
+Inv-loop n latest l good₀ i₀ good i = Testing (onTest latest) (spareOn latest) 8 n l good i
 
 abbrev μ-loop : tie.MeasureT-loop
 μ-loop n latest l good₀ i₀ good i = 8 - i

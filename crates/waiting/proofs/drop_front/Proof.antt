@@ -1,11 +1,11 @@
 use borrow.Author.Needs.{needs}
 use Prim.Native.Nat.{_-_}
-use Rattle.waiting.proofs.Steps.{Dropping, drop-start, drop-step, drop-done}
+use Rattle.waiting.proofs.Steps.{Dropping, drop-start, dropping-step, dropping-end}
 use Rattle.waiting.proofs.drop_front.Statement.{statement}
 use Rattle.waiting.proofs.drop_front.Tie as tie
 
 abbrev Inv-loop : tie.InvT-loop
-Inv-loop k w n r₀ j₀ r j = Dropping w k r j
+Inv-loop k w n r₀ j₀ r j = Dropping 32 (w .len) (w .packets) k r j
 
 abbrev μ-loop : tie.MeasureT-loop
 μ-loop k w n r₀ j₀ r j = w .len - j
@@ -44,13 +44,13 @@ loop-less : tie.Need-loop-less Inv-loop μ-loop
 loop-less c = search needs
 
 loop-again : tie.Need-loop-again Inv-loop μ-loop
-loop-again c = search drop-step
+loop-again c = search dropping-step
 
 cast-r : tie.Need-cast-r Inv-loop μ-loop
 cast-r c = search needs
 
 returns : tie.Need-returns Inv-loop μ-loop
-returns c = search drop-done
+returns c = search dropping-end
 
 pub drop-front-spec : {M : Type 1} → statement M
 drop-front-spec =
