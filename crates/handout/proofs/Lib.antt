@@ -1,3 +1,1 @@
 pub mod Next
-pub mod Held
-pub mod Prefixes

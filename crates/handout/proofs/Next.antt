@@ -4,23 +4,22 @@ use mathlib.Core.Bool.{Bool, true, false, not}
 use mathlib.Core.List.{List, [], _∷_}
 use Prim.Native.Nat.{ℕ, _≤_, _<_}
 use native.Mathlib.Omega.{arith}
-use borrow.Author.Tests.{le-leb, lt-leb, eq-eqb, ne-eqb, eqb-true, eqb-false, not-true, not-false}
+use borrow.Author.Tests.{eqb-true, eqb-false, not-true, not-false}
 use borrow.Author.Needs.{needs}
 use lib.Dec.{leb, eqb}
 use lib.ListN.{length, drop, getD}
 use lib.Seq.{set-getD}
-use Rattle.lists.specs.Find.{written}
 use Rattle.lists.proofs.Pad.{length-of-map}
 use Rattle.packet.specs.declared.Key.{Key}
 use Rattle.packet.specs.Data.{keyIndex, keyMade}
 use Rattle.model.specs.State as model
-use Rattle.model.specs.Refusals.{Refusal, outOfRange, channelAbsent, listTooShort}
-use Rattle.model.specs.Calls.{nextBundle, Answer, refused, noBundle, bundle, lent}
+use Rattle.model.specs.Refusals.{Refusal, outOfRange, channelAbsent}
+use Rattle.model.specs.Calls.{nextBundle, Answer, refused, lent}
 use Rattle.model.specs.Rust.{keyOn, keyOff, hasKey, dataOf, putData, popped}
 use Rattle.model.specs.Port.{Reply, answerOne, untimed, refuse, handOut, next, nextOf, nextBundleS, reply}
 use Rattle.bundles.specs.declared.Bundles.{Bundles}
 use Rattle.bundles.specs.Bundles as bundles
-use Rattle.bundles.proofs.Model.{wf-len, wf-repr, abs-repr}
+use Rattle.bundles.proofs.Model.{wf-repr, abs-repr}
 use Rattle.channel.specs.declared.OffChannel.{OffChannel}
 use Rattle.channel.specs.declared.OnChannel.{OnChannel}
 use Rattle.channel.specs.Channel.{reprOff, reprOn}
@@ -35,71 +34,10 @@ use Rattle.calls.specs.Places.{placeOn}
 use Rattle.calls.specs.Calls as Calls
 use Rattle.calls.specs.Calls.{Outcome, tableReply, called, poppedOf, nextLent}
 use Rattle.calls.proofs.Called.{tested, key-tested, keyPlaceOn, keyPlaceOff, key-placed, on-standing, on-standing-below, off-standing, off-standing-below, called-refused, called-granted, on-key-there, on-key-absent, on-key-fits, on-key-store, on-key-data, on-index, off-key-there, off-key-absent, off-key-fits, off-key-store, off-key-data, off-index}
-use Rattle.handout.specs.declared.Offer.{Offer}
+use Rattle.offers.specs.declared.Offer.{Offer}
+use Rattle.offers.specs.Offers.{offeredIf, offered, offerOf, leftOf}
 use Rattle.handout.specs.declared.Spot.{Spot}
-use Rattle.handout.specs.Handout.{offeredIf, offered, offerOf, leftOf, Refusing, OnSpot, OffSpot, Spotted}
-
--- ---- what is offered of the bundles that wait
-
-offered-none : (bs : List (List ℕ)) (n : ℕ) → length bs ≡ 0 → offered bs n ≡ noBundle
-unfolding offered
-offered-none [] n h = refl
-offered-none (b ∷ bs) n h = absurd (omega arith)
-
-offered-short : (bs : List (List ℕ)) (n : ℕ) → (length bs ≡ 0 → ⊥) → n < length (bundles.front bs) → offered bs n ≡ refused listTooShort
-unfolding offered
-offered-short [] n h l = absurd (h refl)
-offered-short (b ∷ bs) n h l = rw (lt-leb (length b) n l)
-
-offered-made : (bs : List (List ℕ)) (n : ℕ) → (length bs ≡ 0 → ⊥) → length (bundles.front bs) ≤ n → offered bs n ≡ bundle (bundles.front bs)
-unfolding offered
-offered-made [] n h l = absurd (h refl)
-offered-made (b ∷ bs) n h l = rw (le-leb (length b) n l)
-
-module _ (b : Bundles) (l : List ℕ) (w : bundles.Wf b) where
-  none : b .len ≡ 0 → offered (bundles.abs b) (length l) ≡ noBundle
-  none e = offered-none (bundles.abs b) (length l) (sym (wf-len b w) ∙ e)
-
-  some-wait : (b .len ≡ 0 → ⊥) → length (bundles.abs b) ≡ 0 → ⊥
-  some-wait h e = h (wf-len b w ∙ e)
-
-  short : (b .len ≡ 0 → ⊥) → (n : ℕ) → n ≡ length (bundles.front (bundles.abs b)) → length l < n → offered (bundles.abs b) (length l) ≡ refused listTooShort
-  short h n e k = offered-short (bundles.abs b) (length l) (some-wait h) (omega (arith, e))
-
-  made : (b .len ≡ 0 → ⊥) → (n : ℕ) → n ≡ length (bundles.front (bundles.abs b)) → n ≤ length l → offered (bundles.abs b) (length l) ≡ bundle (bundles.front (bundles.abs b))
-  made h n e k = offered-made (bundles.abs b) (length l) (some-wait h) (omega (arith, e))
-
-  pub offer-none : b .len ≡ 0 → _≡_ {A = Offer} (record { code = 0; some = 0; len = 0 }) (offerOf (offered (bundles.abs b) (length l)))
-  offer-none e = rw (none e)
-
-  pub offer-short : (n : ℕ) → (b .len ≡ 0 → ⊥) → n ≡ length (bundles.front (bundles.abs b)) → length l < n → _≡_ {A = Offer} (record { code = 12; some = 0; len = 0 }) (offerOf (offered (bundles.abs b) (length l)))
-  offer-short n h e k = rw (short h n e k)
-
-  pub offer-made : (n : ℕ) → (b .len ≡ 0 → ⊥) → n ≡ length (bundles.front (bundles.abs b)) → n ≤ length l → _≡_ {A = Offer} (record { code = 0; some = 1; len = n }) (offerOf (offered (bundles.abs b) (length l)))
-  offer-made n h e k = rw (made h n e k, e)
-
-  -- the lent list: as it was, or with the handles from the front
-  pub lent-none : b .len ≡ 0 → l ≡ lent (offered (bundles.abs b) (length l)) l
-  lent-none e = rw (none e)
-
-  pub lent-short : (n : ℕ) → (b .len ≡ 0 → ⊥) → n ≡ length (bundles.front (bundles.abs b)) → length l < n → l ≡ lent (offered (bundles.abs b) (length l)) l
-  lent-short n h e k = rw (short h n e k)
-
-  pub lent-made : (n : ℕ) (out : List ℕ) → (b .len ≡ 0 → ⊥) → n ≡ length (bundles.front (bundles.abs b)) → n ≤ length l → out ≡ written (bundles.front (bundles.abs b)) l → out ≡ lent (offered (bundles.abs b) (length l)) l
-  lent-made n out h e k q = rw (made h n e k) q
-
-pub front-fits : (b : Bundles) (n m : ℕ) → n ≡ length (bundles.front (bundles.abs b)) → n ≤ m → length (bundles.front (bundles.abs b)) ≤ m
-front-fits b n m e h = omega (arith, e)
-
-pub ruleset offering = (offer-none, offer-short, offer-made, lent-none, lent-short, lent-made, front-fits, needs)
-
-pub left-kept : (b : Bundles) (n : ℕ) → (n ≡ 1 → ⊥) → b ≡ leftOf (eqb n 1) b
-left-kept b n h = ap (λ (v : Bool). leftOf v b) (sym (ne-eqb n 1 h))
-
-pub left-gone : (b r : Bundles) (n : ℕ) → n ≡ 1 → r ≡ bundles.repr (drop 1 (bundles.abs b)) → r ≡ leftOf (eqb n 1) b
-left-gone b r n h q = q ∙ ap (λ (v : Bool). leftOf v b) (sym (eq-eqb n 1 h))
-
-pub ruleset leaving = (left-kept, left-gone, needs)
+use Rattle.handout.specs.Handout.{Refusing, OnSpot, OffSpot, Spotted}
 
 -- ---- the model's rule, from what is offered
 
@@ -199,6 +137,18 @@ module _ (t : Table) (k : Key) (l : List ℕ) (g : wfb t ≡ true) where
     gone-is x u e z q =
         let st : nextBundleS k (length l) (abs t) .state ≡ model.withProtocol (popped k (drop 1 (bundles.abs b)) (abs t .protocol)) (abs t) = ap (λ (r : Reply). r .state) reply-is ∙ next-gone (bundles.abs b) (length l) k (abs t) (sym (ap (λ (o : Offer). o .some) e) ∙ z) in
         left-is x u e (q ∙ ap (λ (s : model.State). repr s) (sym st))
+
+    -- the channel is stored in either case: `put` is the table with bundles in its place
+    stored-is : (put : Bundles → Table) → put b ≡ t → ((r : Bundles) → r ≡ bundles.repr (drop 1 (bundles.abs b)) → put r ≡ repr (model.withProtocol (popped k (drop 1 (bundles.abs b)) (abs t .protocol)) (abs t)))
+        → (x : Offer) (r : Bundles) → x ≡ offerOf (offered (bundles.abs b) (length l)) → r ≡ leftOf (eqb (x .some) 1) b
+        → _≡_ {A = Popped} (record { table = put r; code = x .code; some = x .some; len = x .len }) (Calls.nextOf t k l)
+    stored-is put again gone x r e q = cases (eqb (x .some) 1) refl q
+      where
+        cases : (m : Bool) → eqb (x .some) 1 ≡ m → r ≡ leftOf m b → _≡_ {A = Popped} (record { table = put r; code = x .code; some = x .some; len = x .len }) (Calls.nextOf t k l)
+        cases true h y = gone-is x (put r) e (eqb-true (x .some) 1 h) (gone r y)
+        cases false h y =
+            ap (λ (u : Table). record { table = u; code = x .code; some = x .some; len = x .len }) (ap put y ∙ again)
+            ∙ kept-is x e (eqb-false (x .some) 1 h)
 
 -- ---- an on-channel
 
@@ -366,26 +316,14 @@ module _ (t : Table) (k : Key) (s : Spot) (p : Spotted t k s) (z : s .code ≡ 0
         pub on-lent : (out : List ℕ) → out ≡ lent (offered (bundles.abs (getD (t .ons) (s .at) d .bundles)) (length l)) l → out ≡ nextLent t k l
         on-lent out y = here-lent t k l (p .on z o .form) (p .on z o .made) (getD (t .ons) (s .at) d .bundles) on-there (on-same t k (s .at) d (p .on z o) o) out y
 
-        on-kept : (x : Offer) → x ≡ offerOf (offered (bundles.abs (getD (t .ons) (s .at) d .bundles)) (length l)) → (x .some ≡ 1 → ⊥)
-            → _≡_ {A = Popped} (record { table = t; code = x .code; some = x .some; len = x .len }) (Calls.nextOf t k l)
-        on-kept x e w = kept-is t k l (p .on z o .form) (p .on z o .made) (getD (t .ons) (s .at) d .bundles) on-there (on-same t k (s .at) d (p .on z o) o) x e w
-
-        on-gone : (x : Offer) (r : Bundles) → x ≡ offerOf (offered (bundles.abs (getD (t .ons) (s .at) d .bundles)) (length l)) → x .some ≡ 1 → r ≡ bundles.repr (drop 1 (bundles.abs (getD (t .ons) (s .at) d .bundles)))
-            → _≡_ {A = Popped} (record { table = storeOn t (t .oncount) (s .at) (onBundles (getD (t .ons) (s .at) d) r); code = x .code; some = x .some; len = x .len }) (Calls.nextOf t k l)
-        on-gone x r e w q =
-            gone-is t k l (p .on z o .form) (p .on z o .made) (getD (t .ons) (s .at) d .bundles) on-there (on-same t k (s .at) d (p .on z o) o) x (storeOn t (t .oncount) (s .at) (onBundles (getD (t .ons) (s .at) d) r)) e w (on-popped t k (s .at) d (p .on z o) r o q)
-
-        -- the channel is stored in either case
         pub on-stored : (x : Offer) (r : Bundles) → x ≡ offerOf (offered (bundles.abs (getD (t .ons) (s .at) d .bundles)) (length l)) → r ≡ leftOf (eqb (x .some) 1) (getD (t .ons) (s .at) d .bundles)
             → _≡_ {A = Popped} (record { table = storeOn t (t .oncount) (s .at) (onBundles (getD (t .ons) (s .at) d) r); code = x .code; some = x .some; len = x .len }) (Calls.nextOf t k l)
-        on-stored x r e q = cases (eqb (x .some) 1) refl q
-          where
-            cases : (v : Bool) → eqb (x .some) 1 ≡ v → r ≡ leftOf v (getD (t .ons) (s .at) d .bundles) → _≡_ {A = Popped} (record { table = storeOn t (t .oncount) (s .at) (onBundles (getD (t .ons) (s .at) d) r); code = x .code; some = x .some; len = x .len }) (Calls.nextOf t k l)
-            cases true h y = on-gone x r e (eqb-true (x .some) 1 h) y
-            cases false h y =
-                (λ i. record { table = storeOn t (t .oncount) (s .at) (onBundles (getD (t .ons) (s .at) d) (y i)); code = x .code; some = x .some; len = x .len })
-                ∙ ap (λ (u : Table). record { table = u; code = x .code; some = x .some; len = x .len }) (on-again t (s .at) d)
-                ∙ on-kept x e (eqb-false (x .some) 1 h)
+        on-stored x r e q =
+            stored-is t k l (p .on z o .form) (p .on z o .made) (getD (t .ons) (s .at) d .bundles) on-there (on-same t k (s .at) d (p .on z o) o)
+            (λ y. storeOn t (t .oncount) (s .at) (onBundles (getD (t .ons) (s .at) d) y))
+            (on-again t (s .at) d)
+            (λ y f. on-popped t k (s .at) d (p .on z o) y o f)
+            x r e q
 
   module _ (o : k .on ≡ 1 → ⊥) where
     pub off-at : s .at < 4
@@ -402,25 +340,13 @@ module _ (t : Table) (k : Key) (s : Spot) (p : Spotted t k s) (z : s .code ≡ 0
         pub off-lent : (out : List ℕ) → out ≡ lent (offered (bundles.abs (getD (t .offs) (s .at) d .bundles)) (length l)) l → out ≡ nextLent t k l
         off-lent out y = here-lent t k l (p .off z o .form) (p .off z o .made) (getD (t .offs) (s .at) d .bundles) off-there (off-same t k (s .at) d (p .off z o) o) out y
 
-        off-kept : (x : Offer) → x ≡ offerOf (offered (bundles.abs (getD (t .offs) (s .at) d .bundles)) (length l)) → (x .some ≡ 1 → ⊥)
-            → _≡_ {A = Popped} (record { table = t; code = x .code; some = x .some; len = x .len }) (Calls.nextOf t k l)
-        off-kept x e w = kept-is t k l (p .off z o .form) (p .off z o .made) (getD (t .offs) (s .at) d .bundles) off-there (off-same t k (s .at) d (p .off z o) o) x e w
-
-        off-gone : (x : Offer) (r : Bundles) → x ≡ offerOf (offered (bundles.abs (getD (t .offs) (s .at) d .bundles)) (length l)) → x .some ≡ 1 → r ≡ bundles.repr (drop 1 (bundles.abs (getD (t .offs) (s .at) d .bundles)))
-            → _≡_ {A = Popped} (record { table = storeOff t (t .offcount) (s .at) (offBundles (getD (t .offs) (s .at) d) r); code = x .code; some = x .some; len = x .len }) (Calls.nextOf t k l)
-        off-gone x r e w q =
-            gone-is t k l (p .off z o .form) (p .off z o .made) (getD (t .offs) (s .at) d .bundles) off-there (off-same t k (s .at) d (p .off z o) o) x (storeOff t (t .offcount) (s .at) (offBundles (getD (t .offs) (s .at) d) r)) e w (off-popped t k (s .at) d (p .off z o) r o q)
-
-        -- the channel is stored in either case
         pub off-stored : (x : Offer) (r : Bundles) → x ≡ offerOf (offered (bundles.abs (getD (t .offs) (s .at) d .bundles)) (length l)) → r ≡ leftOf (eqb (x .some) 1) (getD (t .offs) (s .at) d .bundles)
             → _≡_ {A = Popped} (record { table = storeOff t (t .offcount) (s .at) (offBundles (getD (t .offs) (s .at) d) r); code = x .code; some = x .some; len = x .len }) (Calls.nextOf t k l)
-        off-stored x r e q = cases (eqb (x .some) 1) refl q
-          where
-            cases : (v : Bool) → eqb (x .some) 1 ≡ v → r ≡ leftOf v (getD (t .offs) (s .at) d .bundles) → _≡_ {A = Popped} (record { table = storeOff t (t .offcount) (s .at) (offBundles (getD (t .offs) (s .at) d) r); code = x .code; some = x .some; len = x .len }) (Calls.nextOf t k l)
-            cases true h y = off-gone x r e (eqb-true (x .some) 1 h) y
-            cases false h y =
-                (λ i. record { table = storeOff t (t .offcount) (s .at) (offBundles (getD (t .offs) (s .at) d) (y i)); code = x .code; some = x .some; len = x .len })
-                ∙ ap (λ (u : Table). record { table = u; code = x .code; some = x .some; len = x .len }) (off-again t (s .at) d)
-                ∙ off-kept x e (eqb-false (x .some) 1 h)
+        off-stored x r e q =
+            stored-is t k l (p .off z o .form) (p .off z o .made) (getD (t .offs) (s .at) d .bundles) off-there (off-same t k (s .at) d (p .off z o) o)
+            (λ y. storeOff t (t .offcount) (s .at) (offBundles (getD (t .offs) (s .at) d) y))
+            (off-again t (s .at) d)
+            (λ y f. off-popped t k (s .at) d (p .off z o) y o f)
+            x r e q
 
 pub ruleset answering = (next-refused, lent-refused, on-at, on-waiting, on-lent, on-stored, off-at, off-waiting, off-lent, off-stored, length-of-map, needs)

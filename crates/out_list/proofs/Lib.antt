@@ -1,5 +1,4 @@
 pub mod Form
 pub mod Places
 pub mod Acks
-pub mod Resends
-pub mod Test
+pub mod Held

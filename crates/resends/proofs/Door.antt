@@ -6,10 +6,8 @@ use Prim.Native.Nat.{ℕ, _+_, _*_, _≤_, _<_}
 use native.Mathlib.Omega.{arith}
 use borrow.Author.Tests.{le-leb, lt-leb, not-true, not-false}
 use lib.Dec.{leb}
-use lib.ListN.{length, take, drop, length-append, length-map}
-use Rattle.lists.specs.Pad.{pad}
+use lib.ListN.{length, drop, length-append, length-map}
 use Rattle.lists.specs.Find.{writtenAt}
-use Rattle.lists.proofs.Slot.{take-pad-map}
 use Rattle.lists.proofs.Copies.{written-after, length-written}
 use Rattle.packet.specs.declared.Resend.{Resend}
 use Rattle.model.specs.State as model
@@ -19,33 +17,19 @@ use Rattle.model.specs.Calls.{takeResends, refused, resends, flat, lent}
 use Rattle.model.specs.Port.{Reply, reply, resend, takeResendsS}
 use Rattle.channel.specs.declared.OffChannel.{OffChannel}
 use Rattle.channel.specs.declared.OnChannel.{OnChannel}
-use Rattle.channel.specs.Channel.{reprOff, reprOn}
 use Rattle.table.specs.declared.Table.{Table}
-use Rattle.table.specs.Table.{abs, repr, Wf, wfb, zeroOff, zeroOn}
-use Rattle.table.proofs.Test.{test-wf, form-offs, form-ons, form-offcount, form-oncount}
-use Rattle.table.proofs.Places.{few-offs, few-ons, off-wf-at, on-wf-at}
+use Rattle.table.specs.Table.{abs, repr, wfb}
+use Rattle.table.proofs.Test.{form-offcount, form-oncount}
 use Rattle.calls.specs.declared.Resent.{Resent}
 use Rattle.calls.specs.Calls.{Outcome, tableReply, called, resentOf, resendsOf, resendsLent}
-use Rattle.calls.proofs.Called.{called-refused, called-granted, on-limit, on-index, off-limit, off-index}
-use Rattle.out_list.proofs.Resends.{length-flat}
-use Rattle.resends.specs.Resends.{offRows, onRows, offsSent, onsSent, OffsWf, OnsWf}
-use Rattle.resends.proofs.Rows.{flat-append}
+use Rattle.table.specs.Table.{timeSet}
+use Rattle.calls.proofs.Called.{called-refused, called-granted, tested}
+use Rattle.calls.proofs.Timed.{set-form}
+use Rattle.quiet.specs.Quiet.{offRows, onRows}
+use Rattle.channel_resends.specs.Sent.{offsSent, onsSent}
+use Rattle.out_resends.proofs.Rows.{length-flat, flat-append}
 
--- a table with its time, or its time and its channels new
-abbrev pub atTime : ℕ → Table → Table
-atTime time t =
-    record {
-      latest = time;
-      forwarding = t .forwarding;
-      prefix = t .prefix;
-      offset = t .offset;
-      source = t .source;
-      offcount = t .offcount;
-      oncount = t .oncount;
-      offs = t .offs;
-      ons = t .ons;
-    }
-
+-- a table with its channels new
 abbrev pub withChannels : List OffChannel → List OnChannel → Table → Table
 withChannels offs ons t =
     record {
@@ -73,34 +57,6 @@ module _ (t : Table) (time timeout giveUp : ℕ) (l : List ℕ) (x : Bool) (e : 
   pub unformed-lent : l ≡ resendsLent t time timeout giveUp l
   unfolding resendsLent
   unformed-lent = ap (λ (o : Outcome). lent (o .answer) l) (sym unformed)
-
--- ---- a well-formed table
-
-module _ (t : Table) (x : Bool) (e : x ≡ wfb t) (h : not x ≡ false) where
-  formed : Wf t
-  formed = test-wf t (sym e ∙ not-false x h)
-
-  pub offs-form : OffsWf (t .offs) (t .offcount)
-  offs-form =
-      let w = formed in
-      let ms = abs t .protocol .offs in
-      let own : take (t .offcount) (t .offs) ≡ map reprOff ms = (λ i. take (form-offcount t w i) (form-offs t w i)) ∙ take-pad-map reprOff 4 zeroOff ms (few-offs t w) in
-      record {
-        few = off-limit t w;
-        each = λ i d k. off-wf-at t w i d (off-index t i w k);
-        spare = form-offs t w ∙ ap (λ (r : List OffChannel). pad 4 zeroOff r) (sym own);
-      }
-
-  pub ons-form : OnsWf (t .ons) (t .oncount)
-  ons-form =
-      let w = formed in
-      let ms = abs t .protocol .ons in
-      let own : take (t .oncount) (t .ons) ≡ map reprOn ms = (λ i. take (form-oncount t w i) (form-ons t w i)) ∙ take-pad-map reprOn 8 zeroOn ms (few-ons t w) in
-      record {
-        few = on-limit t w;
-        each = λ i d k. on-wf-at t w i d (on-index t i w k);
-        spare = form-ons t w ∙ ap (λ (r : List OnChannel). pad 8 zeroOn r) (sym own);
-      }
 
 -- ---- the rows, counted
 
@@ -175,7 +131,7 @@ module _ (t : Table) (time timeout giveUp : ℕ) (l : List ℕ) (x : Bool) (e : 
 
     pub late-is : _≡_ {A = Resent} (record { table = t; code = 3; rows = 0 }) (resendsOf t time timeout giveUp l)
     late-is =
-        let w = formed t x e h in
+        let w = tested t x e h in
         answer-is
         (record { table = t; code = 3; rows = 0 })
         ((λ i. record { table = w .form i; code = 3; rows = 0 }) ∙ ap (λ (r : Reply). resentOf (tableReply r)) (sym late-reply))
@@ -192,13 +148,12 @@ module _ (t : Table) (time timeout giveUp : ℕ) (l : List ℕ) (x : Bool) (e : 
           let n = lt-leb (length (flat (rows t time timeout giveUp))) (length l) (omega (arith, numbers-count t time timeout giveUp a b p q)) in
           λ i. resend (m i) (n i) time timeout giveUp (abs t)
 
-      pub short-is : _≡_ {A = Resent} (record { table = atTime time t; code = 12; rows = 0 }) (resendsOf t time timeout giveUp l)
-      unfolding repr
+      pub short-is : _≡_ {A = Resent} (record { table = timeSet time t; code = 12; rows = 0 }) (resendsOf t time timeout giveUp l)
       short-is =
-          let w = formed t x e h in
+          let f = set-form time t (tested t x e h) in
           answer-is
-          (record { table = atTime time t; code = 12; rows = 0 })
-          ((λ i. record { table = atTime time (w .form i); code = 12; rows = 0 }) ∙ ap (λ (r : Reply). resentOf (tableReply r)) (sym short-reply))
+          (record { table = timeSet time t; code = 12; rows = 0 })
+          ((λ i. record { table = f i; code = 12; rows = 0 }) ∙ ap (λ (r : Reply). resentOf (tableReply r)) (sym short-reply))
 
       pub short-lent : l ≡ resendsLent t time timeout giveUp l
       short-lent = lent-is l (ap (λ (r : Reply). lent (r .answer) l) (sym short-reply))
@@ -214,10 +169,10 @@ module _ (t : Table) (time timeout giveUp : ℕ) (l : List ℕ) (x : Bool) (e : 
           let n = le-leb (length (flat (rows t time timeout giveUp))) (length l) (omega (arith, numbers-count t time timeout giveUp a b p q)) in
           λ i. resend (m i) (n i) time timeout giveUp (abs t)
 
-      sent-table : (y : List OffChannel) (z : List OnChannel) → y ≡ offsSent time timeout giveUp (t .offs) (t .offcount) → z ≡ onsSent time timeout giveUp (t .ons) (t .oncount) → withChannels y z (atTime time t) ≡ repr after
+      sent-table : (y : List OffChannel) (z : List OnChannel) → y ≡ offsSent time timeout giveUp (t .offs) (t .offcount) → z ≡ onsSent time timeout giveUp (t .ons) (t .oncount) → withChannels y z (timeSet time t) ≡ repr after
       unfolding repr abs resent offsSent onsSent
       sent-table y z u v =
-          let w = formed t x e h in
+          let w = tested t x e h in
           let m : t .offcount ≡ length (map (resentOff time timeout giveUp) (abs t .protocol .offs)) = form-offcount t w ∙ sym (length-map (abs t .protocol .offs) (resentOff time timeout giveUp)) in
           let n : t .oncount ≡ length (map (resentOn time timeout giveUp) (abs t .protocol .ons)) = form-oncount t w ∙ sym (length-map (abs t .protocol .ons) (resentOn time timeout giveUp)) in
           λ i. record {
@@ -233,12 +188,12 @@ module _ (t : Table) (time timeout giveUp : ℕ) (l : List ℕ) (x : Bool) (e : 
           }
 
       pub sent-is : (y : List OffChannel) (z : List OnChannel) → y ≡ offsSent time timeout giveUp (t .offs) (t .offcount) → z ≡ onsSent time timeout giveUp (t .ons) (t .oncount)
-          → _≡_ {A = Resent} (record { table = withChannels y z (atTime time t); code = 0; rows = a + b }) (resendsOf t time timeout giveUp l)
+          → _≡_ {A = Resent} (record { table = withChannels y z (timeSet time t); code = 0; rows = a + b }) (resendsOf t time timeout giveUp l)
       sent-is y z u v =
           let n = rows-count t time timeout giveUp a b p q in
           let f = sent-table y z u v in
           answer-is
-          (record { table = withChannels y z (atTime time t); code = 0; rows = a + b })
+          (record { table = withChannels y z (timeSet time t); code = 0; rows = a + b })
           ((λ i. record { table = f i; code = 0; rows = n i }) ∙ ap (λ (r : Reply). resentOf (tableReply r)) (sym sent-reply))
 
       pub sent-lent : (l₁ l₂ : List ℕ) → l₁ ≡ writtenAt 0 (flat (offs t time timeout giveUp)) l → l₂ ≡ writtenAt (2 * a) (flat (ons t time timeout giveUp)) l₁ → l₂ ≡ resendsLent t time timeout giveUp l

@@ -2,7 +2,7 @@
 use Prim.Native.Nat.{_-_}
 use Rattle.model.specs.Rust.{holdsEntry}
 use Rattle.lists.proofs.Looking.{Asking}
-use Rattle.out_list.proofs.Resends.{holding}
+use Rattle.out_list.proofs.Held.{holding}
 use Rattle.out_list.proofs.holds.Statement.{statement}
 use Rattle.out_list.proofs.holds.Tie as tie
 

@@ -5,7 +5,8 @@ use Prim.Native.Nat.{_+_, _*_, _<_}
 use lib.ListN.{length}
 use native.Mathlib.Omega.{arith}
 use borrow.Author.Needs.{needs}
-use Rattle.resends.proofs.Door.{offs-form, ons-form, short-is, short-lent, offs-size, ons-size, same-size, sent-is, sent-lent}
+use Rattle.table.proofs.Forms.{offs-form, ons-form}
+use Rattle.resends.proofs.Door.{short-is, short-lent, offs-size, ons-size, same-size, sent-is, sent-lent}
 use Rattle.resends.proofs.send_again.Statement.{statement}
 use Rattle.resends.proofs.send_again.Tie as tie
 

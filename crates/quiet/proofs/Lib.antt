@@ -1,0 +1,3 @@
+pub mod Channels
+pub mod Calm
+pub mod Counts
