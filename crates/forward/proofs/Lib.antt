@@ -1,5 +1,4 @@
-pub mod Places
-pub mod Find
+pub mod Fresh
 pub mod Model
 pub mod Out
 pub mod Steps

@@ -21,20 +21,22 @@ use Rattle.channel.specs.declared.OffChannel.{OffChannel}
 use Rattle.channel.specs.declared.OnChannel.{OnChannel}
 use Rattle.channel.specs.declared.OffStep.{OffStep}
 use Rattle.channel.specs.declared.OnStep.{OnStep}
-use Rattle.channel.specs.Channel.{absOff, reprOff, absOn, reprOn, WfOff, WfOn, roomOff, roomOn, stepOff, stepOn}
+use Rattle.channel.specs.Channel.{absOff, reprOff, absOn, reprOn, keyedOn, keyedOff, WfOff, WfOn, roomOff, roomOn, stepOff, stepOn}
 use Rattle.channel.proofs.Laws.{abs-repr-off, abs-repr-on, repr-wf-off, repr-wf-on}
 use Rattle.table.specs.declared.Table.{Table}
-use Rattle.table.specs.Table.{abs, repr, Wf, wfb}
+use Rattle.table.specs.Table.{abs, repr, timeSet, Wf, wfb}
 use Rattle.table.proofs.Laws.{storeOn, storeOff}
 use Rattle.calls.specs.declared.Found.{Found}
 use Rattle.calls.specs.Answers.{noView}
 use Rattle.calls.specs.Calls.{Outcome, tableReply, foundOf, acceptedOut}
 use Rattle.calls.proofs.Called.{called-refused, called-granted, tested}
-use Rattle.calls.proofs.Timed.{timeSet, set-form, on-time, wf-room}
+use Rattle.calls.proofs.Timed.{set-form, on-time, wf-room}
 use Rattle.calls.specs.Places.{placeOn, placeOff}
 use Rattle.forward.specs.declared.Timed.{Timed}
-use Rattle.forward.specs.Forward.{refusedBy, outIn, onSeen, offSeen, onKeyed, offKeyed, stoppedBy, timedAt, Forwarded}
-use Rattle.forward.proofs.Places.{few-ons, few-offs, on-fresh, off-fresh, wf-fits, on-room, off-room, on-full, off-full, on-taken, off-taken, on-stored, off-stored}
+use Rattle.channels.specs.Channels.{refusedBy, onSeen, offSeen}
+use Rattle.channels.proofs.Places.{few-ons, few-offs, wf-fits, on-room, off-room, on-full, off-full, on-taken, off-taken, on-stored, off-stored}
+use Rattle.forward.specs.Forward.{outIn, stoppedBy, Forwarded}
+use Rattle.forward.proofs.Fresh.{on-fresh, off-fresh}
 use Rattle.forward.proofs.Model.{onFor, offFor, onSent, offSent, onPut, offPut, roomedOn, roomedOff, out-malformed, out-late, out-full, out-on, out-off, out-cumulative}
 
 -- ---- the answer, where the model's reply is known
@@ -265,7 +267,7 @@ out-formed : (t : Table) (time a : ℕ) (r : Record) (b : Bool) → b ≡ wfb t 
 unfolding acceptedOut outIn reply
 out-formed t time a r b e h = ap (λ (o : Outcome). foundOf o) (sym (called-granted (calls.acceptOut time a r) t (sym e ∙ not-false b h)))
 
-stopping : (t : Table) (time a n l : ℕ) (r : Record) (y : Timed) → (n ≡ 0 → ⊥) → refusedBy (timedAt l t) n ≡ acceptedOut t time a r → y ≡ stoppedBy n l → Forwarded t time a r y
+stopping : (t : Table) (time a n l : ℕ) (r : Record) (y : Timed) → (n ≡ 0 → ⊥) → refusedBy (timeSet l t) n ≡ acceptedOut t time a r → y ≡ stoppedBy n l → Forwarded t time a r y
 stopping t time a n l r y x q e =
     subst (λ (s : Timed). Forwarded t time a r s) (sym e)
     (record {
@@ -347,8 +349,8 @@ module _ (t : Table) (time a : ℕ) (r : Record) (b m : Bool) (e : b ≡ wfb t) 
 -- ---- what the one exit answers
 
 module _ (t : Table) (time a : ℕ) (r : Record) (y : Timed) (p : Forwarded t time a r y) where
-  pub out-stopped : (v : View) → (y .code ≡ 0 → ⊥) → v ≡ noView → _≡_ {A = Found} (record { table = timedAt (y .latest) t; code = y .code; view = v }) (acceptedOut t time a r)
-  out-stopped v x q = (λ j. record { table = timedAt (y .latest) t; code = y .code; view = q j }) ∙ p .refused x
+  pub out-stopped : (v : View) → (y .code ≡ 0 → ⊥) → v ≡ noView → _≡_ {A = Found} (record { table = timeSet (y .latest) t; code = y .code; view = v }) (acceptedOut t time a r)
+  out-stopped v x q = (λ j. record { table = timeSet (y .latest) t; code = y .code; view = q j }) ∙ p .refused x
 
   module _ (c : y .code ≡ 0) where
     wf : Wf t
@@ -373,10 +375,10 @@ module _ (t : Table) (time a : ℕ) (r : Record) (y : Timed) (p : Forwarded t ti
     granted-is = out-formed t time a r true (sym (p .formed c)) refl
 
     -- 11 leaves only the time
-    over-is : (n : ℕ) (v : View) → v ≡ noView → refusedBy (timeSet time t) n ≡ outIn t time a r → _≡_ {A = Found} (record { table = timedAt (y .latest) t; code = n; view = v }) (acceptedOut t time a r)
-    over-is n v q g = (λ j. record { table = timedAt (p .left c j) t; code = n; view = q j }) ∙ g ∙ granted-is
+    over-is : (n : ℕ) (v : View) → v ≡ noView → refusedBy (timeSet time t) n ≡ outIn t time a r → _≡_ {A = Found} (record { table = timeSet (y .latest) t; code = n; view = v }) (acceptedOut t time a r)
+    over-is n v q g = (λ j. record { table = timeSet (p .left c j) t; code = n; view = q j }) ∙ g ∙ granted-is
 
-    module _ (o : r .on ≡ 1) (z d : OnChannel) (q : d ≡ cond (ltb (y .at) (t .oncount)) (getD (t .ons) (y .at) z) (onKeyed a (indexOf r) (versionOf r) (getD (t .ons) (y .at) z))) where
+    module _ (o : r .on ≡ 1) (z d : OnChannel) (q : d ≡ cond (ltb (y .at) (t .oncount)) (getD (t .ons) (y .at) z) (keyedOn a (indexOf r) (versionOf r) (getD (t .ons) (y .at) z))) where
       on-found : d ≡ cond (ltb (y .at) (t .oncount)) (getD (t .ons) (y .at) z) (reprOn (model.newOn a (indexOf r) (versionOf r)))
       on-found = on-fresh t wf a (indexOf r) (versionOf r) (y .at) z d (p .on-room c o) q
 
@@ -384,19 +386,19 @@ module _ (t : Table) (time a : ℕ) (r : Record) (y : Timed) (p : Forwarded t ti
       out-on-wf = on-wf t 0 a (indexOf r) (versionOf r) (y .at) r z d wf refl refl (p .on-at c o) on-found
 
       module _ (s : OnStep) (x : s ≡ stepOn (granted (forwardOn time r (absOn d))) d) where
-        pub exit-on-over : (v : View) → (s .code ≡ 0 → ⊥) → v ≡ noView → _≡_ {A = Found} (record { table = timedAt (y .latest) t; code = s .code; view = v }) (acceptedOut t time a r)
+        pub exit-on-over : (v : View) → (s .code ≡ 0 → ⊥) → v ≡ noView → _≡_ {A = Found} (record { table = timeSet (y .latest) t; code = s .code; view = v }) (acceptedOut t time a r)
         exit-on-over v k n =
             over-is (s .code) v n
             (out-on-over t time a (indexOf r) (versionOf r) (y .at) r z d s (refusedBy (timeSet time t) (s .code)) wf (p .made c) (p .reached c) o refl refl (p .on-at c o) (p .on-room c o) on-found x k refl)
 
         pub exit-on-granted : (n : ℕ) (v : View) → s .code ≡ 0 → v ≡ onSeen (d .address) (d .index) (d .version) (d .expected) → n ≡ cond (ltb (y .at) (t .oncount)) (t .oncount) (t .oncount + 1)
-            → _≡_ {A = Found} (record { table = storeOn (timedAt (y .latest) t) n (y .at) (s .channel); code = s .code; view = v }) (acceptedOut t time a r)
+            → _≡_ {A = Found} (record { table = storeOn (timeSet (y .latest) t) n (y .at) (s .channel); code = s .code; view = v }) (acceptedOut t time a r)
         exit-on-granted n v k vq nq =
-            (λ j. record { table = storeOn (timedAt (p .left c j) t) n (y .at) (s .channel); code = k j; view = v })
+            (λ j. record { table = storeOn (timeSet (p .left c j) t) n (y .at) (s .channel); code = k j; view = v })
             ∙ out-on-granted t time a (indexOf r) (versionOf r) (y .at) n r z d s v wf (p .made c) (p .reached c) o refl refl (p .on-at c o) (p .on-room c o) on-found x k vq nq
             ∙ granted-is
 
-    module _ (o : r .on ≡ 1 → ⊥) (z d : OffChannel) (q : d ≡ cond (ltb (y .at) (t .offcount)) (getD (t .offs) (y .at) z) (offKeyed a (getD (t .offs) (y .at) z))) where
+    module _ (o : r .on ≡ 1 → ⊥) (z d : OffChannel) (q : d ≡ cond (ltb (y .at) (t .offcount)) (getD (t .offs) (y .at) z) (keyedOff a (getD (t .offs) (y .at) z))) where
       off-found : d ≡ cond (ltb (y .at) (t .offcount)) (getD (t .offs) (y .at) z) (reprOff (model.newOff a))
       off-found = off-fresh t wf a (y .at) z d (p .off-room c o) q
 
@@ -404,31 +406,31 @@ module _ (t : Table) (time a : ℕ) (r : Record) (y : Timed) (p : Forwarded t ti
       out-off-wf = off-wf t 0 a (y .at) r z d wf (p .off-at c o) off-found
 
       module _ (s : OffStep) (x : s ≡ stepOff (forwardOff (isSet (r .hascumulative)) time r (absOff d)) d) where
-        pub exit-off-over : (v : View) → s .code ≡ 11 → v ≡ noView → _≡_ {A = Found} (record { table = timedAt (y .latest) t; code = s .code; view = v }) (acceptedOut t time a r)
+        pub exit-off-over : (v : View) → s .code ≡ 11 → v ≡ noView → _≡_ {A = Found} (record { table = timeSet (y .latest) t; code = s .code; view = v }) (acceptedOut t time a r)
         exit-off-over v k n =
-            (λ j. record { table = timedAt (y .latest) t; code = k j; view = v })
+            (λ j. record { table = timeSet (y .latest) t; code = k j; view = v })
             ∙ over-is 11 v n (out-off-over t time a (y .at) r z d s (refusedBy (timeSet time t) 11) wf (p .made c) (p .reached c) o (p .off-at c o) (p .off-room c o) off-found x k refl)
 
         module _ (n : ℕ) (v : View) (k : s .code ≡ 11 → ⊥) (nq : n ≡ cond (ltb (y .at) (t .offcount)) (t .offcount) (t .offcount + 1)) where
           -- 6 leaves the channel too
           exit-off-rejected : (s .code ≡ 0 → ⊥) → v ≡ noView
-              → _≡_ {A = Found} (record { table = storeOff (timedAt (y .latest) t) n (y .at) (s .channel); code = s .code; view = v }) (acceptedOut t time a r)
+              → _≡_ {A = Found} (record { table = storeOff (timeSet (y .latest) t) n (y .at) (s .channel); code = s .code; view = v }) (acceptedOut t time a r)
           exit-off-rejected l vq =
-              (λ j. record { table = storeOff (timedAt (p .left c j) t) n (y .at) (s .channel); code = s .code; view = vq j })
+              (λ j. record { table = storeOff (timeSet (p .left c j) t) n (y .at) (s .channel); code = s .code; view = vq j })
               ∙ out-off-rejected t time a (y .at) n r z d s (refusedBy (storeOff (timeSet time t) n (y .at) (s .channel)) (s .code)) wf (p .made c) (p .reached c) o (p .off-at c o) (p .off-room c o) off-found x k l nq refl
               ∙ granted-is
 
           exit-off-granted : s .code ≡ 0 → v ≡ offSeen (d .address)
-              → _≡_ {A = Found} (record { table = storeOff (timedAt (y .latest) t) n (y .at) (s .channel); code = s .code; view = v }) (acceptedOut t time a r)
+              → _≡_ {A = Found} (record { table = storeOff (timeSet (y .latest) t) n (y .at) (s .channel); code = s .code; view = v }) (acceptedOut t time a r)
           exit-off-granted l vq =
-              (λ j. record { table = storeOff (timedAt (p .left c j) t) n (y .at) (s .channel); code = l j; view = v })
+              (λ j. record { table = storeOff (timeSet (p .left c j) t) n (y .at) (s .channel); code = l j; view = v })
               ∙ out-off-granted t time a (y .at) n r z d s v wf (p .made c) (p .reached c) o (p .off-at c o) (p .off-room c o) off-found x l nq vq
               ∙ granted-is
 
           pub exit-off-kept : v ≡ cond (eqb (s .code) 0) (offSeen (d .address)) noView
-              → _≡_ {A = Found} (record { table = storeOff (timedAt (y .latest) t) n (y .at) (s .channel); code = s .code; view = v }) (acceptedOut t time a r)
+              → _≡_ {A = Found} (record { table = storeOff (timeSet (y .latest) t) n (y .at) (s .channel); code = s .code; view = v }) (acceptedOut t time a r)
           exit-off-kept vq = by (eqb (s .code) 0) refl
             where
-              by : (b : Bool) → eqb (s .code) 0 ≡ b → _≡_ {A = Found} (record { table = storeOff (timedAt (y .latest) t) n (y .at) (s .channel); code = s .code; view = v }) (acceptedOut t time a r)
+              by : (b : Bool) → eqb (s .code) 0 ≡ b → _≡_ {A = Found} (record { table = storeOff (timeSet (y .latest) t) n (y .at) (s .channel); code = s .code; view = v }) (acceptedOut t time a r)
               by true e = exit-off-granted (eqb-true (s .code) 0 e) (vq ∙ ap (λ (b : Bool). cond b (offSeen (d .address)) noView) e)
               by false e = exit-off-rejected (eqb-false (s .code) 0 e) (vq ∙ ap (λ (b : Bool). cond b (offSeen (d .address)) noView) e)

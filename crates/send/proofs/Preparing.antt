@@ -4,7 +4,7 @@ use mathlib.Core.Bool.{Bool, true, false, not, cond, _&&_}
 use mathlib.Core.List.{List, _++_}
 use Prim.Native.Nat.{ℕ, _+_, _≤_, _<_}
 use native.Mathlib.Omega.{arith}
-use mir.Syntax.{w32, w64}
+use mir.Syntax.{w64}
 use mir.Val.{Fits}
 use borrow.Author.Needs.{needs}
 use borrow.Author.Tests.{eq-eqb, ne-eqb, eqb-true, eqb-false, le-leb, lt-leb, leb-true, leb-false, lt-ltb, le-ltb, ltb-true, ltb-false, not-true, not-false}
@@ -22,31 +22,32 @@ use Rattle.model.specs.State as model
 use Rattle.model.specs.Refusals.{outOfRange, timeBelow, channelAbsent, overLimit}
 use Rattle.model.specs.Rust.{firstVersion, keyOn, keyOff, hasKey, sentEntries, viewIf, keyView}
 use Rattle.model.specs.Calls as calls
-use Rattle.model.specs.Port.{Reply, timed, refuse, prepareS, reply}
+use Rattle.model.specs.Port.{Reply, asked, timed, refuse, prepareS, reply}
 use Rattle.kept.proofs.Table.{on-at-address, on-at-index, off-at-address}
 use Rattle.out_list.specs.declared.OutList.{OutList}
 use Rattle.out_list.specs.Out as out
-use Rattle.out_list.proofs.Form.{wf-len, wf-len-le}
+use Rattle.out_list.proofs.Form.{wf-len}
 use Rattle.channel.specs.declared.OffChannel.{OffChannel}
 use Rattle.channel.specs.declared.OnChannel.{OnChannel}
 use Rattle.channel.specs.Channel.{absOff, reprOff, absOn, reprOn}
 use Rattle.table.specs.declared.Table.{Table}
-use Rattle.table.specs.Table.{abs, repr, Wf, wfb}
+use Rattle.table.specs.Table.{abs, repr, timeSet, Wf, wfb}
 use Rattle.table.proofs.Laws.{onPlace, offPlace, storeOn, storeOff}
 use Rattle.table.proofs.Places.{few-offs, few-ons, on-wf-at, off-wf-at}
+use Rattle.table.proofs.Outside.{outsideOff, outsideOn}
 use Rattle.calls.specs.declared.Handles.{Handles}
 use Rattle.calls.specs.declared.Sent.{Sent}
 use Rattle.calls.specs.Places.{placeOn, placeOff}
 use Rattle.calls.specs.Calls.{Outcome, tableReply, sentOf, handlesOf, preparedBy}
 use Rattle.calls.proofs.Called.{called-refused, called-granted, tested, key-placed, keyPlaceOn, keyPlaceOff, on-limit, off-limit, on-index, off-index, on-key-there, on-key-absent, on-key-fits, off-key-there, off-key-absent, off-key-fits, on-store, off-store, on-standing, on-standing-abs, on-standing-below, off-standing, off-standing-abs, off-standing-below}
-use Rattle.calls.proofs.Timed.{timeSet, set-form, on-time, wf-room}
+use Rattle.calls.proofs.Timed.{set-form, on-time, wf-room}
 use Rattle.calls.specs.Answers.{noPrepared}
-use Rattle.send.specs.declared.Left.{Left}
-use Rattle.send.specs.declared.OffSent.{OffSent}
-use Rattle.send.specs.declared.OnSent.{OnSent}
-use Rattle.send.specs.Send.{asked, sendCode, answerOf, unsentLeft, stoppedLeft, looseIf, looseLeft, onNew, offNew, onSends, offSends, onSentOf, offSentOf, sentIn}
-use Rattle.send.proofs.Outside.{outsideOff, outsideOn}
-use Rattle.send.proofs.Added.{length-sent}
+use Rattle.sent.specs.declared.Left.{Left}
+use Rattle.sent.specs.declared.OffSent.{OffSent}
+use Rattle.sent.specs.declared.OnSent.{OnSent}
+use Rattle.sent.specs.Sent.{answerOf, stoppedLeft, looseIf, looseLeft, onNew, offNew, onSends, offSends, onSentOf, offSentOf}
+use Rattle.sent.proofs.Added.{length-sent}
+use Rattle.send.specs.Send.{sendCode, unsentLeft, sentIn}
 use Rattle.send.proofs.Sent.{loosed, onEntries, onSent, offEntries, offSent, moved, sent-malformed, sent-late, sent-absent, sent-loose, sent-on, sent-on-over, sent-off, sent-off-over}
 
 -- ---- 2
@@ -57,28 +58,7 @@ asked-is k reliable n m e = λ j. e j && leb reliable 1 && leb n 16
 pub asked-few : (k : Key) (reliable n : ℕ) → asked k reliable n ≡ true → n ≤ 16
 asked-few k reliable n h = leb-true n 16 (and-right (keyMade k && isFlag reliable) (leb n 16) h)
 
--- neither count is large
-pub sum-fits : (a b : ℕ) → a ≤ 32 → b ≤ 16 → Fits w32 (a + b)
-sum-fits a b h k = record { fits = omega arith }
-
 pub ruleset asking = (asked-is, needs)
-
--- ---- not reliable
-
-pub loose-one : (a : Left) (v : View) (time offset n : ℕ) (p : Prepared) → p ≡ answerOf v offset true (a .source) → n ≤ 1
-    → _≡_ {A = Left} (record { latest = time; source = a .source; code = a .code; prepared = record { allocated = 0; first = 0; on = p .on; expected = p .expected; index = p .index; version = p .version; offset = p .offset } }) (looseLeft a v time offset n)
-unfolding looseLeft
-loose-one a v time offset n p e h =
-    (λ j. record { latest = time; source = a .source; code = a .code; prepared = record { allocated = 0; first = 0; on = e j .on; expected = e j .expected; index = e j .index; version = e j .version; offset = e j .offset } })
-    ∙ ap (λ (b : Bool). looseIf b a v time offset n) (sym (le-ltb 1 n h))
-
-pub loose-more : (a : Left) (v : View) (time offset n next : ℕ) (p : Prepared) → p ≡ answerOf v offset true (a .source) → 1 < n → next ≡ add (a .source) n
-    → _≡_ {A = Left} (record { latest = time; source = next; code = a .code; prepared = p }) (looseLeft a v time offset n)
-unfolding looseLeft
-loose-more a v time offset n next p e h q =
-    (λ j. record { latest = time; source = q j; code = a .code; prepared = e j }) ∙ ap (λ (b : Bool). looseIf b a v time offset n) (sym (lt-ltb 1 n h))
-
-pub ruleset loosing = (loose-one, loose-more, needs)
 
 -- ---- 1, 2, 3
 
@@ -99,57 +79,6 @@ module _ (g : Bool) (latest source time : ℕ) (k : Key) (reliable n : ℕ) (a :
   front-past z l e = e ∙ ap (λ (b : Bool). unsentLeft latest source (cond b 3 0)) (sym (le-ltb time latest l)) ∙ front-asked true (not-false m z)
 
 pub ruleset fronting = (front-unformed, front-malformed, front-late, front-past, needs)
-
--- ---- a send on its channel, a return at a time
-
-pub over-fits : (o : OutList) (n : ℕ) → out.Wf o → n ≤ 16 → Fits w32 (o .len + n)
-over-fits o n w h = sum-fits (o .len) n (wf-len-le o w) h
-
-module _ (c : OnChannel) (a : Left) (time offset reliable : ℕ) (h : Handles) (v : View) (e : v ≡ model.onView (absOn c)) where
-  pub on-sent-loose : (b : Left) → (reliable ≡ 1 → ⊥) → b ≡ looseLeft a v time offset (h .count) → _≡_ {A = OnSent} (record { channel = c; left = b }) (onSentOf c a time offset reliable h)
-  unfolding onSentOf
-  on-sent-loose b r q =
-      (λ j. record { channel = c; left = q j })
-      ∙ (λ j. record { channel = c; left = looseLeft a (e j) time offset (h .count) })
-      ∙ ap (λ (x : Bool). onSends x (leb (c .out .len + h .count) 32) c a time offset h) (sym (ne-eqb reliable 1 r))
-
-  module _ (r : reliable ≡ 1) where
-    pub on-sent-over : (b : Left) → 32 < c .out .len + h .count → b ≡ stoppedLeft a time 11 → _≡_ {A = OnSent} (record { channel = c; left = b }) (onSentOf c a time offset reliable h)
-    unfolding onSentOf
-    on-sent-over b m q =
-        (λ j. record { channel = c; left = q j }) ∙ (λ j. onSends (sym (eq-eqb reliable 1 r) j) (sym (lt-leb (c .out .len + h .count) 32 m) j) c a time offset h)
-
-    pub on-sent-granted : (all : OutList) (next : ℕ) (p : Prepared) → c .out .len + h .count ≤ 32 → all ≡ out.repr (out.abs (c .out) ++ sentEntries time (c .source) (handlesOf h)) → next ≡ add (c .source) (h .count)
-        → p ≡ answerOf v offset true (c .source)
-        → _≡_ {A = OnSent} (record { channel = onNew c next all; left = record { latest = time; source = a .source; code = a .code; prepared = p } }) (onSentOf c a time offset reliable h)
-    unfolding onSentOf
-    on-sent-granted all next p m f g q =
-        let z : p ≡ answerOf (model.onView (absOn c)) offset true (c .source) = q ∙ ap (λ (x : View). answerOf x offset true (c .source)) e in
-        (λ j. record { channel = onNew c (g j) (f j); left = record { latest = time; source = a .source; code = a .code; prepared = z j } })
-        ∙ (λ j. onSends (sym (eq-eqb reliable 1 r) j) (sym (le-leb (c .out .len + h .count) 32 m) j) c a time offset h)
-
-module _ (c : OffChannel) (a : Left) (time offset reliable : ℕ) (h : Handles) (v : View) (e : v ≡ model.offView (absOff c)) where
-  pub off-sent-loose : (b : Left) → (reliable ≡ 1 → ⊥) → b ≡ looseLeft a v time offset (h .count) → _≡_ {A = OffSent} (record { channel = c; left = b }) (offSentOf c a time offset reliable h)
-  unfolding offSentOf
-  off-sent-loose b r q =
-      (λ j. record { channel = c; left = q j })
-      ∙ (λ j. record { channel = c; left = looseLeft a (e j) time offset (h .count) })
-      ∙ ap (λ (x : Bool). offSends x (leb (c .out .len + h .count) 32) c a time offset h) (sym (ne-eqb reliable 1 r))
-
-  module _ (r : reliable ≡ 1) where
-    pub off-sent-over : (b : Left) → 32 < c .out .len + h .count → b ≡ stoppedLeft a time 11 → _≡_ {A = OffSent} (record { channel = c; left = b }) (offSentOf c a time offset reliable h)
-    unfolding offSentOf
-    off-sent-over b m q =
-        (λ j. record { channel = c; left = q j }) ∙ (λ j. offSends (sym (eq-eqb reliable 1 r) j) (sym (lt-leb (c .out .len + h .count) 32 m) j) c a time offset h)
-
-    pub off-sent-granted : (all : OutList) (next : ℕ) (p : Prepared) → c .out .len + h .count ≤ 32 → all ≡ out.repr (out.abs (c .out) ++ sentEntries time (a .source) (handlesOf h)) → next ≡ add (a .source) (h .count)
-        → p ≡ answerOf v offset true (a .source)
-        → _≡_ {A = OffSent} (record { channel = offNew c all; left = record { latest = time; source = next; code = a .code; prepared = p } }) (offSentOf c a time offset reliable h)
-    unfolding offSentOf
-    off-sent-granted all next p m f g q =
-        let z : p ≡ answerOf (model.offView (absOff c)) offset true (a .source) = q ∙ ap (λ (x : View). answerOf x offset true (a .source)) e in
-        (λ j. record { channel = offNew c (f j); left = record { latest = time; source = g j; code = a .code; prepared = z j } })
-        ∙ (λ j. offSends (sym (eq-eqb reliable 1 r) j) (sym (le-leb (c .out .len + h .count) 32 m) j) c a time offset h)
 
 -- ---- either kind: the reply, and the table that it leaves
 
@@ -204,8 +133,8 @@ module _ (t : Table) (time : ℕ) (k : Key) (reliable : ℕ) (h : Handles) (w : 
   count-is : h .count ≡ length (handlesOf h)
   count-is = sym (length-pad (h .count) 0 (h .handles))
 
-  made-is : keyMade k && isFlag reliable && leb (length (handlesOf h)) 16 ≡ true
-  made-is = ap (λ (n : ℕ). keyMade k && isFlag reliable && leb n 16) (sym count-is) ∙ a
+  made-is : asked k reliable (length (handlesOf h)) ≡ true
+  made-is = ap (λ (n : ℕ). asked k reliable n) (sym count-is) ∙ a
 
   absent-is : (s : Sent) → hasKey k (abs t .protocol) ≡ false → s ≡ refusedBy (timeSet time t) 13 → s ≡ sentIn t time k reliable h
   absent-is s p e =
@@ -239,9 +168,6 @@ on-view-is k p o = ap (λ (b : Bool). viewIf b (k .address) (keyIndex k) (firstV
 
 pub on-out-wf : (t : Table) (at : ℕ) (d : OnChannel) → Wf t → at < t .oncount → out.Wf (getD (t .ons) at d .out)
 on-out-wf t at d w h = on-wf-at t w at d (on-index t at w h) .out
-
-pub on-out-len : (t : Table) (at : ℕ) (d : OnChannel) → Wf t → at < t .oncount → getD (t .ons) at d .out .len ≤ 32
-on-out-len t at d w h = wf-len-le (getD (t .ons) at d .out) (on-out-wf t at d w h)
 
 on-absent : (t : Table) (time : ℕ) (k : Key) (reliable : ℕ) (h : Handles) (i at : ℕ) (s : Sent) → Wf t → asked k reliable (h .count) ≡ true → t .latest ≤ time → k .on ≡ 1
     → i ≡ keyIndex k → at ≡ placeOn (k .address) i (abs t) → t .oncount ≤ at → s ≡ refusedBy (timeSet time t) 13 → s ≡ sentIn t time k reliable h
@@ -340,9 +266,6 @@ off-view-is k p o = ap (λ (b : Bool). viewIf b (k .address) (keyIndex k) (first
 
 pub off-out-wf : (t : Table) (at : ℕ) (d : OffChannel) → Wf t → at < t .offcount → out.Wf (getD (t .offs) at d .out)
 off-out-wf t at d w h = off-wf-at t w at d (off-index t at w h) .out
-
-pub off-out-len : (t : Table) (at : ℕ) (d : OffChannel) → Wf t → at < t .offcount → getD (t .offs) at d .out .len ≤ 32
-off-out-len t at d w h = wf-len-le (getD (t .offs) at d .out) (off-out-wf t at d w h)
 
 off-absent : (t : Table) (time : ℕ) (k : Key) (reliable : ℕ) (h : Handles) (at : ℕ) (s : Sent) → Wf t → asked k reliable (h .count) ≡ true → t .latest ≤ time → (k .on ≡ 1 → ⊥)
     → at ≡ placeOff (k .address) (abs t) → t .offcount ≤ at → s ≡ refusedBy (timeSet time t) 13 → s ≡ sentIn t time k reliable h
@@ -456,13 +379,13 @@ module _ (t : Table) (time : ℕ) (k : Key) (reliable : ℕ) (h : Handles) (b : 
 
   prepare-malformed : (m : Bool) → m ≡ asked k reliable (h .count) → not m ≡ true → s ≡ refusedBy t 2 → s ≡ preparedBy t time k reliable h
   prepare-malformed m y z q =
-      let no : keyMade k && isFlag reliable && leb (length (handlesOf h)) 16 ≡ false = ap (λ (x : ℕ). keyMade k && isFlag reliable && leb x 16) (length-pad (h .count) 0 (h .handles)) ∙ sym y ∙ not-true m z in
+      let no : asked k reliable (length (handlesOf h)) ≡ false = ap (λ (x : ℕ). asked k reliable x) (length-pad (h .count) 0 (h .handles)) ∙ sym y ∙ not-true m z in
       prepare-is (in-is t time k reliable h s (refuse outOfRange (timed time (abs t))) (sent-malformed time k reliable (handlesOf h) (abs t) no) (q ∙ (λ j. refusedBy (tested t b e n .form j) 2)))
 
   prepare-late : (m : Bool) → m ≡ asked k reliable (h .count) → not m ≡ false → time < t .latest → s ≡ refusedBy t 3 → s ≡ preparedBy t time k reliable h
   unfolding abs
   prepare-late m y z l q =
-      let yes : keyMade k && isFlag reliable && leb (length (handlesOf h)) 16 ≡ true = ap (λ (x : ℕ). keyMade k && isFlag reliable && leb x 16) (length-pad (h .count) 0 (h .handles)) ∙ sym y ∙ not-false m z in
+      let yes : asked k reliable (length (handlesOf h)) ≡ true = ap (λ (x : ℕ). asked k reliable x) (length-pad (h .count) 0 (h .handles)) ∙ sym y ∙ not-false m z in
       prepare-is (in-is t time k reliable h s (refuse timeBelow (timed time (abs t))) (sent-late time k reliable (handlesOf h) (abs t) yes (lt-leb (t .latest) time l)) (q ∙ (λ j. refusedBy (tested t b e n .form j) 3)))
 
 -- where the ways meet

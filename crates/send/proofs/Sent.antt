@@ -13,19 +13,19 @@ use Rattle.lists.proofs.Tests.{or-left}
 use Rattle.seq.specs.Num.{add}
 use Rattle.packet.specs.declared.Key.{Key}
 use Rattle.packet.specs.declared.OutEntry.{OutEntry}
-use Rattle.packet.specs.Data.{isSet, isFlag, keyIndex, keyMade}
+use Rattle.packet.specs.Data.{isSet, keyIndex}
 use Rattle.model.specs.State.{OffData, OffChannel, OnChannel, Protocol, State, withOut, offWith, onWith, withSource, withShared, withTime, withProtocol, isOn, hasOn, hasOff, putOff, putOn}
 use Rattle.model.specs.Refusals.{outOfRange, timeBelow, channelAbsent, overLimit}
 use Rattle.model.specs.Room.{fitsData, fitsOff, fitsOn, fits, onRoom, offRoom}
 use Rattle.model.specs.Rust as rust
 use Rattle.model.specs.Rust.{firstVersion, keyOn, keyOff, hasKey, sentEntries, keyView}
 use Rattle.model.specs.Calls as calls
-use Rattle.model.specs.Port.{timed, refuse, grant, roomSend, send, onTime, prepareS}
+use Rattle.model.specs.Port.{asked, timed, refuse, grant, roomSend, send, onTime, prepareS}
 use Rattle.kept.proofs.Table.{on-at-address, on-at-index, off-at-address}
 use Rattle.channel.proofs.Laws as channel
 use Rattle.calls.proofs.Called.{on-found, on-key-has, off-key-has}
 use Rattle.calls.proofs.Room.{fits-put-on, fits-put-off}
-use Rattle.send.specs.Send.{answerOf}
+use Rattle.sent.specs.Sent.{answerOf}
 
 -- ---- a channel's room, where its out list is new
 
@@ -43,7 +43,7 @@ out-room d l h =
 
 module _ (t : ℕ) (k : Key) (reliable : ℕ) (hs : List ℕ) (s : State) where
   abbrev made : Bool
-  made = keyMade k && isFlag reliable && leb (length hs) 16
+  made = asked k reliable (length hs)
 
   pub sent-malformed : made ≡ false → prepareS t k reliable hs s ≡ refuse outOfRange (timed t s)
   unfolding prepareS

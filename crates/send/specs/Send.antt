@@ -1,130 +1,25 @@
--- The calls of this crate past refusal 1, and the parts that their code has.
-use mathlib.Core.Bool.{Bool, true, false, cond, _&&_}
-use mathlib.Core.List.{_++_}
-use Prim.Native.Nat.{ℕ, _+_}
-use lib.Dec.{leb, ltb, eqb}
-use Rattle.seq.specs.Num.{add}
+-- Send past refusal 1, and the parts that the code has in front of its channel.
+use mathlib.Core.Bool.{Bool, cond}
+use Prim.Native.Nat.{ℕ}
+use lib.Dec.{ltb}
 use Rattle.packet.specs.declared.Key.{Key}
-use Rattle.packet.specs.declared.Prepared.{Prepared}
-use Rattle.packet.specs.declared.View.{View}
-use Rattle.packet.specs.Data.{isFlag, keyMade}
-use Rattle.model.specs.State as model
-use Rattle.model.specs.Rust.{sentEntries}
-use Rattle.model.specs.Port.{prepareS, acksWrittenS}
-use Rattle.out_list.specs.declared.OutList.{OutList}
-use Rattle.out_list.specs.Out as out
-use Rattle.channel.specs.declared.OffChannel.{OffChannel}
-use Rattle.channel.specs.declared.OnChannel.{OnChannel}
-use Rattle.channel.specs.Channel.{absOff, absOn}
+use Rattle.model.specs.Port.{asked, prepareS}
 use Rattle.table.specs.declared.Table.{Table}
 use Rattle.table.specs.Table.{abs}
-use Rattle.calls.specs.declared.Done.{Done}
 use Rattle.calls.specs.declared.Handles.{Handles}
-use Rattle.calls.specs.declared.Names.{Names}
 use Rattle.calls.specs.declared.Sent.{Sent}
 use Rattle.calls.specs.Answers.{noPrepared}
-use Rattle.calls.specs.Calls.{tableReply, doneOf, sentOf, handlesOf, namesOf}
-use Rattle.send.specs.declared.Left.{Left}
-use Rattle.send.specs.declared.OffSent.{OffSent}
-use Rattle.send.specs.declared.OnSent.{OnSent}
+use Rattle.calls.specs.Calls.{tableReply, sentOf, handlesOf}
+use Rattle.sent.specs.declared.Left.{Left}
 
--- the calls on a well-formed table
-unfoldable pub wroteIn : Table → Key → Names → Done
-wroteIn t k n = doneOf (tableReply (acksWrittenS k (namesOf n) (abs t)))
-
+-- the call on a well-formed table
 unfoldable pub sentIn : Table → ℕ → Key → ℕ → Handles → Sent
 sentIn t time k reliable h = sentOf (tableReply (prepareS time k reliable (handlesOf h) (abs t)))
 
--- acks written: 1 and 2, where they are told from the table's form, the key and the count alone
-abbrev pub frontCode : Bool → Key → ℕ → ℕ
-frontCode good k n = cond good (cond (keyMade k) (cond (ltb 64 n) 2 0) 2) 1
-
--- "An absent channel gives 2 for any name, 13 for an empty list"
-abbrev pub absentCode : ℕ → ℕ
-absentCode names = cond (eqb names 0) 13 2
-
--- "if one is lacking, refusal 2": whether all were there
-abbrev pub namesCode : ℕ → ℕ
-namesCode ok = cond (eqb ok 0) 2 0
-
--- 2 where this is false
-abbrev pub asked : Key → ℕ → ℕ → Bool
-asked k reliable n = keyMade k && isFlag reliable && leb n 16
-
--- send: 1, 2 and 3, from the table's form and time and what is asked alone
+-- 1, 2 and 3, from the table's form and time and what is asked alone
 abbrev pub sendCode : Bool → ℕ → ℕ → Key → ℕ → ℕ → ℕ
 sendCode good latest time k reliable n = cond good (cond (asked k reliable n) (cond (ltb time latest) 3 0) 2) 1
-
--- what is answered, from the channel's view
-abbrev pub answerOf : View → ℕ → Bool → ℕ → Prepared
-answerOf v offset allocated n =
-    record {
-      allocated = cond allocated 1 0;
-      first = cond allocated n 0;
-      on = v .on;
-      expected = v .expected;
-      index = v .index;
-      version = v .version;
-      offset = offset;
-    }
 
 -- nothing is prepared, by the refusal n or as yet
 abbrev pub unsentLeft : ℕ → ℕ → ℕ → Left
 unsentLeft latest source n = record { latest = latest; source = source; code = n; prepared = noPrepared }
-
--- 13 and 11 leave the time set
-abbrev pub stoppedLeft : Left → ℕ → ℕ → Left
-stoppedLeft a time n = record { latest = time; source = a .source; code = n; prepared = a .prepared }
-
--- packets that are not reliable take numbers where they are more than one
-abbrev pub looseIf : Bool → Left → View → ℕ → ℕ → ℕ → Left
-looseIf true a v time offset n = record { latest = time; source = add (a .source) n; code = a .code; prepared = answerOf v offset true (a .source) }
-looseIf false a v time offset n = record { latest = time; source = a .source; code = a .code; prepared = answerOf v offset false (a .source) }
-
-unfoldable pub looseLeft : Left → View → ℕ → ℕ → ℕ → Left
-looseLeft a v time offset n = looseIf (ltb 1 n) a v time offset n
-
--- ---- a send on its channel: reliable or not, with room or without
-
-abbrev pub onNew : OnChannel → ℕ → OutList → OnChannel
-onNew c n o =
-    record {
-      address = c .address;
-      index = c .index;
-      version = c .version;
-      expected = c .expected;
-      source = n;
-      out = o;
-      acks = c .acks;
-      groups = c .groups;
-      bundles = c .bundles;
-      buffer = c .buffer;
-      queue = c .queue;
-    }
-
-abbrev pub onSends : Bool → Bool → OnChannel → Left → ℕ → ℕ → Handles → OnSent
-onSends false room c a time offset h = record { channel = c; left = looseLeft a (model.onView (absOn c)) time offset (h .count) }
-onSends true false c a time offset h = record { channel = c; left = stoppedLeft a time 11 }
-onSends true true c a time offset h =
-    record {
-      channel = onNew c (add (c .source) (h .count)) (out.repr (out.abs (c .out) ++ sentEntries time (c .source) (handlesOf h)));
-      left = record { latest = time; source = a .source; code = a .code; prepared = answerOf (model.onView (absOn c)) offset true (c .source) };
-    }
-
-unfoldable pub onSentOf : OnChannel → Left → ℕ → ℕ → ℕ → Handles → OnSent
-onSentOf c a time offset reliable h = onSends (eqb reliable 1) (leb (c .out .len + h .count) 32) c a time offset h
-
-abbrev pub offNew : OffChannel → OutList → OffChannel
-offNew c o = record { address = c .address; out = o; acks = c .acks; groups = c .groups; bundles = c .bundles }
-
-abbrev pub offSends : Bool → Bool → OffChannel → Left → ℕ → ℕ → Handles → OffSent
-offSends false room c a time offset h = record { channel = c; left = looseLeft a (model.offView (absOff c)) time offset (h .count) }
-offSends true false c a time offset h = record { channel = c; left = stoppedLeft a time 11 }
-offSends true true c a time offset h =
-    record {
-      channel = offNew c (out.repr (out.abs (c .out) ++ sentEntries time (a .source) (handlesOf h)));
-      left = record { latest = time; source = add (a .source) (h .count); code = a .code; prepared = answerOf (model.offView (absOff c)) offset true (a .source) };
-    }
-
-unfoldable pub offSentOf : OffChannel → Left → ℕ → ℕ → ℕ → Handles → OffSent
-offSentOf c a time offset reliable h = offSends (eqb reliable 1) (leb (c .out .len + h .count) 32) c a time offset h

@@ -6,8 +6,8 @@ use Rattle.forward.proofs.accept_out.Tie as tie
 out-placed-requires : tie.Need-out-placed-requires
 out-placed-requires c κs = search needs
 
-no-view-requires : tie.Need-no-view-requires
-no-view-requires c κs = search needs
+none-requires : tie.Need-none-requires
+none-requires c κs = search needs
 
 mul-on-for : tie.Need-mul-on-for
 mul-on-for c =
@@ -117,7 +117,7 @@ returns-2 c =
     let i = c .before .before .before .before in
     let h = i .before .before in
     let p = h .before .before .before in
-    exit-on-over _ _ _ _ _ (p .out-placed .ensures) (h .if1 .taken) (i .if2 .taken) _ _ (c .before .before .on-for .ensures) _ (c .before .on-forward .ensures) _ (c .if3 .left) (h .before .before .no-view .ensures)
+    exit-on-over _ _ _ _ _ (p .out-placed .ensures) (h .if1 .taken) (i .if2 .taken) _ _ (c .before .before .on-for .ensures) _ (c .before .on-forward .ensures) _ (c .if3 .left) (h .before .before .none .ensures)
 
 returns-3 : tie.Need-returns-3
 returns-3 c =
@@ -131,17 +131,17 @@ returns-4 c =
     let i = c .before .before .before .before in
     let h = i .before .before in
     let p = h .before .before .before in
-    exit-off-over _ _ _ _ _ (p .out-placed .ensures) (h .if1 .taken) (i .if2 .left) _ _ (c .before .before .off-for .ensures) _ (c .before .off-forward .ensures) _ (c .if4 .left) (h .before .before .no-view .ensures)
+    exit-off-over _ _ _ _ _ (p .out-placed .ensures) (h .if1 .taken) (i .if2 .left) _ _ (c .before .before .off-for .ensures) _ (c .before .off-forward .ensures) _ (c .if4 .left) (h .before .before .none .ensures)
 
 returns-5 : tie.Need-returns-5
-returns-5 c = out-stopped _ _ _ _ _ (c .before .before .before .out-placed .ensures) _ (c .if1 .left) (c .before .before .no-view .ensures)
+returns-5 c = out-stopped _ _ _ _ _ (c .before .before .before .out-placed .ensures) _ (c .if1 .left) (c .before .before .none .ensures)
 
 pub accept-out-spec : {M : Type 1} → statement M
 accept-out-spec =
     tie.close
     (tie.spec
     out-placed-requires
-    no-view-requires
+    none-requires
     mul-on-for
     element-copy-out-on-for
     on-for-requires

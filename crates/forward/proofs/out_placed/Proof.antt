@@ -27,8 +27,8 @@ stopped-requires-3 c κs = search needs
 returns-3 : tie.Need-returns-3
 returns-3 c = search sends
 
-if-flagged-requires : tie.Need-if-flagged-requires
-if-flagged-requires c κs = search needs
+index-of-requires : tie.Need-index-of-requires
+index-of-requires c κs = search needs
 
 on-place-requires : tie.Need-on-place-requires
 on-place-requires c κs = search sends
@@ -66,7 +66,7 @@ out-placed-spec =
     returns-2
     stopped-requires-3
     returns-3
-    if-flagged-requires
+    index-of-requires
     on-place-requires
     stopped-requires-4
     returns-4

@@ -1,5 +1,5 @@
 use Rattle.send.proofs.Preparing.{Ready, ready, on-count-fits, off-count-fits, asked-few, on-out-wf, off-out-wf, joined, prepare-front, prepare-on-absent, prepare-on, prepare-off-absent, prepare-off}
-use Rattle.send.proofs.Outside.{outsideOff, outsideOn}
+use Rattle.table.proofs.Outside.{outsideOff, outsideOn}
 use Rattle.calls.proofs.Called.{on-index, off-index}
 use mathlib.Core.Logic.{⊎-elim}
 use lib.Dec.{lit<}
