@@ -20,8 +20,8 @@ use Rattle.table.specs.Keys.{isAddress, isKey, keysOf}
 use Rattle.table.specs.Table.{abs, Wf}
 use Rattle.table.proofs.Laws.{onPlace, offPlace}
 use Rattle.table.proofs.Places.{few-offs, few-ons, off-slot-at, on-slot-at}
-use Rattle.receive.specs.declared.Aim.{Aim}
-use Rattle.receive.specs.Receive.{placed, aimed}
+use Rattle.delivery.specs.declared.Aim.{Aim}
+use Rattle.delivery.specs.Delivery.{placed, aimed}
 
 record Placed (aim : Aim) (k n room : ℕ) : Type 0 where
   pub at : aim .at ≡ k

@@ -10,8 +10,8 @@ use Rattle.table.specs.Table.{repr}
 use Rattle.calls.specs.declared.Delivered.{Delivered}
 use Rattle.calls.specs.Answers.{noView, codeOf, countOf, viewOf}
 use Rattle.calls.specs.Calls.{tableReply, deliveredOf}
-use Rattle.receive.specs.declared.Tally.{Tally}
-use Rattle.receive.specs.Receive.{noTally, next, after, answered}
+use Rattle.delivery.specs.declared.Tally.{Tally}
+use Rattle.delivery.specs.Delivery.{noTally, next, after, answered}
 
 -- a result with a count
 abbrev tallyOf : Result → ℕ → Tally

@@ -1,14 +1,14 @@
 -- The turns of the loop, one for each way that a record can go. Assumes nothing.
 use mathlib.Core.Path.{_≡_, refl, ap, sym, _∙_}
-use mathlib.Core.Bool.{Bool, true, false, cond}
+use mathlib.Core.Bool.{Bool, true, false, not, cond}
 use mathlib.Core.List.{List, map}
 use mathlib.Core.Logic.{_⊎_, inl, inr, ⊎-elim}
 use Prim.Native.Nat.{ℕ, _+_, _≤_, _<_}
 use native.Mathlib.Omega.{arith}
-use lib.Dec.{leb}
+use lib.Dec.{leb, eqb}
 use lib.ListN.{length, getD, set}
-use borrow.Author.Tests.{leb-true, leb-false}
-use Rattle.lists.proofs.Pad.{and-left}
+use borrow.Author.Tests.{leb-true, leb-false, ne-eqb, not-true, not-false}
+use Rattle.lists.proofs.Pad.{never, and-left}
 use Rattle.lists.proofs.Find.{find-absent}
 use Rattle.lists.proofs.Slot.{absent-of-slot}
 use Rattle.lists.proofs.Maps.{map-set}
@@ -25,8 +25,11 @@ use Rattle.channel.specs.declared.OffChannel.{OffChannel}
 use Rattle.channel.specs.declared.OnChannel.{OnChannel}
 use Rattle.channel.specs.declared.OffStep.{OffStep}
 use Rattle.channel.specs.declared.OnStep.{OnStep}
-use Rattle.channel.specs.Channel.{absOff, reprOff, absOn, reprOn, WfOff, WfOn, stepOff, stepOn}
+use Rattle.channel.specs.Channel.{absOff, reprOff, absOn, reprOn, WfOff, WfOn, stepOff, stepOn, keyedOn, keyedOff}
 use Rattle.channel.proofs.Laws.{abs-repr-off, abs-repr-on}
+use Rattle.records.specs.Records.{onCode, drops}
+use Rattle.records.proofs.On.{code-forwarded}
+use Rattle.off_records.specs.OffRecords.{offCode}
 use Rattle.table.specs.declared.Keys.{Keys}
 use Rattle.table.specs.declared.OnKey.{OnKey}
 use Rattle.table.specs.declared.Table.{Table}
@@ -37,10 +40,12 @@ use Rattle.table.proofs.Places.{few-offs, few-ons, off-at-fits, on-at-fits, off
 use Rattle.table.proofs.Test.{form-offcount, form-oncount}
 use Rattle.calls.specs.declared.Batch.{Batch}
 use Rattle.calls.specs.Answers.{noView}
-use Rattle.receive.specs.declared.Aim.{Aim}
-use Rattle.receive.specs.declared.Tally.{Tally}
-use Rattle.receive.specs.Receive.{tallied, next, aimed, drops, keyedOn, keyedOff, openedOn, openedOff, inUse, withOnKey, withOffKey}
+use Rattle.delivery.specs.declared.Aim.{Aim}
+use Rattle.delivery.specs.declared.Beside.{Beside}
+use Rattle.delivery.specs.declared.Tally.{Tally}
+use Rattle.delivery.specs.Delivery.{tallied, next, aimed, openedOn, openedOff, inUse, withOnKey, withOffKey, withOn, withOff, changed}
 use Rattle.receive.proofs.Step.{putOnP, putOffP, judgedOn, judgedOff, OnKeyed, OffKeyed, on-keyed, off-keyed, step-on, step-off, step-malformed, step-full}
+use Rattle.delivery.proofs.Small.{opened-on-wf, opened-off-wf}
 use Rattle.receive.proofs.Judge.{KeptOn, KeptOff, on-next, on-kept, on-dropped, off-next, off-kept, off-dropped}
 use Rattle.receive.proofs.Turn.{Turning, turned}
 use Rattle.receive.proofs.Aims.{OnAim, OffAim, Missed, Full, aimed-on, aimed-off, aimed-none}
@@ -102,38 +107,23 @@ module _ (u : Table) (wf : Wf u) (a : ℕ) (r : Record) (aim : Aim) where
           ∙ ap (λ (k : ℕ). getD (repr s .offs) k d) (w .at)
           ∙ off-here s a d l (few-offs u wf)
 
-  -- the table with a channel of that key stored at its place, n of its kind in use, and the record's prefix
-  abbrev storedOn : ℕ → OnChannel → Table
-  storedOn n c =
-      record {
-        latest = u .latest;
-        forwarding = u .forwarding;
-        prefix = r .prefix;
-        offset = u .offset;
-        source = u .source;
-        offcount = u .offcount;
-        oncount = n;
-        offs = u .offs;
-        ons = set (u .ons) (aim .at) c;
-      }
+  -- the table with a channel of that key stored at its place, and what stands beside the channels
+  abbrev storedOn : Beside → OnChannel → Table
+  storedOn l c = changed u (u .latest) l (u .offs) (set (u .ons) (aim .at) c)
 
-  abbrev storedOff : ℕ → OffChannel → Table
-  storedOff n c =
-      record {
-        latest = u .latest;
-        forwarding = u .forwarding;
-        prefix = r .prefix;
-        offset = u .offset;
-        source = u .source;
-        offcount = n;
-        oncount = u .oncount;
-        offs = set (u .offs) (aim .at) c;
-        ons = u .ons;
-      }
+  abbrev storedOff : Beside → OffChannel → Table
+  storedOff l c = changed u (u .latest) l (set (u .offs) (aim .at) c) (u .ons)
 
-  on-stored : OnAim u a r aim → (x : model.OnChannel) → OnKeyed a (indexOf r) x → storedOn (inUse (u .oncount) (aim .new)) (reprOn x) ≡ repr (putOnP r (abs u) x)
+  -- with such keys
+  abbrev besideOn : Keys → Beside
+  besideOn keys = record { offcount = u .offcount; oncount = inUse (u .oncount) (aim .new); prefix = r .prefix; keys = keys }
+
+  abbrev besideOff : Keys → Beside
+  besideOff keys = record { offcount = inUse (u .offcount) (aim .new); oncount = u .oncount; prefix = r .prefix; keys = keys }
+
+  on-stored : OnAim u a r aim → (x : model.OnChannel) → OnKeyed a (indexOf r) x → (keys : Keys) → storedOn (besideOn keys) (reprOn x) ≡ repr (putOnP r (abs u) x)
   unfolding repr
-  on-stored w x k = ap (λ (y : Table). store y (aim .new) (aim .at)) (wf .form) ∙ ap (λ (j : ℕ). store (repr s) (aim .new) j) at ∙ by (leb (length (s .protocol .ons)) place) refl
+  on-stored w x k keys = ap (λ (y : Table). store y (aim .new) (aim .at)) (wf .form) ∙ ap (λ (j : ℕ). store (repr s) (aim .new) j) at ∙ by (leb (length (s .protocol .ons)) place) refl
     where
       s : model.State
       s = abs u
@@ -169,9 +159,9 @@ module _ (u : Table) (wf : Wf u) (a : ℕ) (r : Record) (aim : Aim) where
       by true q = ap (λ (y : Bool). store (repr s) y place) (new ∙ q) ∙ put-on-new p x (leb-true _ _ q) (omega (arith, w .room, at))
       by false q = ap (λ (y : Bool). store (repr s) y place) (new ∙ q) ∙ put-on-old p x (leb-false _ _ q) (few-ons u wf)
 
-  off-stored : OffAim u a r aim → (x : model.OffChannel) → OffKeyed a x → storedOff (inUse (u .offcount) (aim .new)) (reprOff x) ≡ repr (putOffP r (abs u) x)
+  off-stored : OffAim u a r aim → (x : model.OffChannel) → OffKeyed a x → (keys : Keys) → storedOff (besideOff keys) (reprOff x) ≡ repr (putOffP r (abs u) x)
   unfolding repr
-  off-stored w x k = ap (λ (y : Table). store y (aim .new) (aim .at)) (wf .form) ∙ ap (λ (j : ℕ). store (repr s) (aim .new) j) at ∙ by (leb (length (s .protocol .offs)) place) refl
+  off-stored w x k keys = ap (λ (y : Table). store y (aim .new) (aim .at)) (wf .form) ∙ ap (λ (j : ℕ). store (repr s) (aim .new) j) at ∙ by (leb (length (s .protocol .offs)) place) refl
     where
       s : model.State
       s = abs u
@@ -207,31 +197,39 @@ module _ (u : Table) (wf : Wf u) (a : ℕ) (r : Record) (aim : Aim) where
       by false q = ap (λ (y : Bool). store (repr s) y place) (new ∙ q) ∙ put-off-old p x (leb-false _ _ q) (few-offs u wf)
 
   -- and its keys
-  on-keys : (keys : Keys) (n : ℕ) (c : OnChannel) → keys ≡ keysOf u → withOnKey keys (aim .at) (c .address) (c .index) ≡ keysOf (storedOn n c)
+  on-keys : (keys : Keys) (l : Beside) (c : OnChannel) → keys ≡ keysOf u → withOnKey keys (aim .at) (c .address) (c .index) ≡ keysOf (storedOn l c)
   unfolding keysOf
-  on-keys keys n c k = ap (λ (l : Keys). withOnKey l (aim .at) (c .address) (c .index)) k ∙ (λ j. record { offs = map offKey (u .offs); ons = sym (map-set onKey (u .ons) (aim .at) c) j })
+  on-keys keys l c k = ap (λ (y : Keys). withOnKey y (aim .at) (c .address) (c .index)) k ∙ (λ j. record { offs = map offKey (u .offs); ons = sym (map-set onKey (u .ons) (aim .at) c) j })
 
-  off-keys : (keys : Keys) (n : ℕ) (c : OffChannel) → keys ≡ keysOf u → withOffKey keys (aim .at) (c .address) ≡ keysOf (storedOff n c)
+  off-keys : (keys : Keys) (l : Beside) (c : OffChannel) → keys ≡ keysOf u → withOffKey keys (aim .at) (c .address) ≡ keysOf (storedOff l c)
   unfolding keysOf
-  off-keys keys n c k = ap (λ (l : Keys). withOffKey l (aim .at) (c .address)) k ∙ (λ j. record { offs = sym (map-set offKey (u .offs) (aim .at) c) j; ons = map onKey (u .ons) })
+  off-keys keys l c k = ap (λ (y : Keys). withOffKey y (aim .at) (c .address)) k ∙ (λ j. record { offs = sym (map-set offKey (u .offs) (aim .at) c) j; ons = map onKey (u .ons) })
 
-  -- the channel's step is the model's on the record's channel
-  on-step-is : OnAim u a r aim → (t : ℕ) (d : OnChannel) (s : OnStep) → u .latest ≡ t
-      → s ≡ stepOn (onRecord (isSet (u .forwarding)) (u .latest) r (absOn (openedOn (aim .new) a r (getD (u .ons) (aim .at) d)))) (openedOn (aim .new) a r (getD (u .ons) (aim .at) d))
-      → s ≡ stepOn (onRecord (abs u .protocol .forwarding) t r onFor) (reprOn onFor)
-  unfolding abs
-  on-step-is w t d s n e =
-      e
-      ∙ (λ j. stepOn (onRecord (isSet (u .forwarding)) (n j) r (absOn (on-opened w d j))) (on-opened w d j))
-      ∙ ap (λ (m : model.OnChannel). stepOn (onRecord (isSet (u .forwarding)) t r m) (reprOn onFor)) (abs-repr-on onFor (on-at-fits u wf a (indexOf r) (versionOf r)))
+  -- a step on the channel read there is the model's on the record's channel
+  on-step-is : OnAim u a r aim → (f : Bool) (t : ℕ) (d c : OnChannel) → c ≡ openedOn (aim .new) a r (getD (u .ons) (aim .at) d)
+      → stepOn (onRecord f t r (absOn c)) c ≡ stepOn (onRecord f t r onFor) (reprOn onFor)
+  on-step-is w f t d c e =
+      (λ j. stepOn (onRecord f t r (absOn ((e ∙ on-opened w d) j))) ((e ∙ on-opened w d) j))
+      ∙ ap (λ (m : model.OnChannel). stepOn (onRecord f t r m) (reprOn onFor)) (abs-repr-on onFor (on-at-fits u wf a (indexOf r) (versionOf r)))
 
-  off-step-is : OffAim u a r aim → (t : ℕ) (d : OffChannel) (s : OffStep) → u .latest ≡ t
-      → s ≡ stepOff (offRecord (u .latest) r (absOff (openedOff (aim .new) a (getD (u .offs) (aim .at) d)))) (openedOff (aim .new) a (getD (u .offs) (aim .at) d))
-      → s ≡ stepOff (offRecord t r offFor) (reprOff offFor)
-  off-step-is w t d s n e =
-      e
-      ∙ (λ j. stepOff (offRecord (n j) r (absOff (off-opened w d j))) (off-opened w d j))
+  off-step-is : OffAim u a r aim → (t : ℕ) (d c : OffChannel) → c ≡ openedOff (aim .new) a (getD (u .offs) (aim .at) d)
+      → stepOff (offRecord t r (absOff c)) c ≡ stepOff (offRecord t r offFor) (reprOff offFor)
+  off-step-is w t d c e =
+      (λ j. stepOff (offRecord t r (absOff ((e ∙ off-opened w d) j))) ((e ∙ off-opened w d) j))
       ∙ ap (λ (m : model.OffChannel). stepOff (offRecord t r m) (reprOff offFor)) (abs-repr-off offFor (off-at-fits u wf a))
+
+-- what is not dropped
+pub not-dropped : (k m : ℕ) (x : Bool) → k ≡ m → x ≡ drops k → not x ≡ true → drops m ≡ false
+not-dropped k m x e y n = ap drops (sym e) ∙ sym y ∙ not-true x n
+
+-- what is dropped is refused, and has no view
+dropped-some : (n : ℕ) → drops n ≡ true → eqb n 0 ≡ false
+dropped-some n h = ne-eqb n 0 (λ e. never (sym (ap drops e) ∙ h))
+
+unseen : (n : ℕ) (v : View) (d : Tally) → drops n ≡ true → tallied n noView d ≡ tallied n v d
+unseen n v d h =
+    let q : cond (eqb n 0) noView noView ≡ cond (eqb n 0) v noView = ap (λ (x : Bool). cond x noView noView) (dropped-some n h) ∙ sym (ap (λ (x : Bool). cond x v noView) (dropped-some n h)) in
+    λ k. record { code = n; count = cond (eqb n 0) (d .count + 1) (d .count); view = q k }
 
 -- ---- the turns
 
@@ -242,23 +240,26 @@ module _ (t : Table) (a : ℕ) (b : Batch) (u : Table) (keys : Keys) (done : Tal
   abbrev now : ℕ
   now = t .latest
 
+  abbrev beside : Beside
+  beside = record { offcount = u .offcount; oncount = u .oncount; prefix = u .prefix; keys = keys }
+
   room : fits (abs u .protocol) ≡ true
   room = wf-fits u (w .wf)
 
   -- 2 and 4
-  pub turn-missed : (aim : Aim) (v : View) (d : Tally) → aim ≡ aimed keys (u .offcount) (u .oncount) a (getD (b .records) i z) → (aim .code ≡ 0 → ⊥) → v ≡ noView → d ≡ tallied (aim .code) v done
+  pub turn-missed : (aim : Aim) (k : ℕ) (v : View) (d : Tally) → aim ≡ aimed keys (u .offcount) (u .oncount) a (getD (b .records) i z) → (aim .code ≡ 0 → ⊥) → k ≡ aim .code → v ≡ noView → d ≡ tallied k v done
       → Turning t a b u keys d (i + 1)
-  turn-missed aim v d e c n p = ⊎-elim malformed full (aimed-none u keys (w .wf) (w .keyed) a rec aim e c)
+  turn-missed aim k v d e c g n p = ⊎-elim malformed full (aimed-none u keys (w .wf) (w .keyed) a rec aim e c)
     where
       malformed : Missed rec aim → Turning t a b u keys d (i + 1)
       malformed m =
           turned t a b u keys done i z w h u keys d (record { result = refuses outOfRange; state = abs u }) (step-malformed now a rec (abs u) room (m .made)) (w .wf .form) (w .keyed)
-          (p ∙ (λ j. tallied (m .code j) (n j) done))
+          (p ∙ (λ j. tallied ((g ∙ m .code) j) (n j) done))
 
       full : Full u a rec aim → Turning t a b u keys d (i + 1)
       full m =
           turned t a b u keys done i z w h u keys d (record { result = refuses tableFull; state = abs u }) (step-full now a rec (abs u) room (isSet (rec .on)) (m .made) refl (m .place)) (w .wf .form) (w .keyed)
-          (p ∙ (λ j. tallied (m .code j) (n j) done))
+          (p ∙ (λ j. tallied ((g ∙ m .code) j) (n j) done))
 
   module _ (aim : Aim) (e : aim ≡ aimed keys (u .offcount) (u .oncount) a (getD (b .records) i z)) (c : aim .code ≡ 0) (o : getD (b .records) i z .on ≡ 1) where
     on-aim : OnAim u a rec aim
@@ -268,57 +269,48 @@ module _ (t : Table) (a : ℕ) (b : Batch) (u : Table) (keys : Keys) (done : Tal
     pub on-index : aim .at < 8
     on-index = on-aim .room
 
-    pub on-form : (d : OnChannel) → WfOn (getD (u .ons) (aim .at) d)
-    on-form d = on-wf-at u (w .wf) (aim .at) d (on-aim .room)
-
     pub on-made : wellMade (getD (b .records) i z) ≡ true
     on-made = on-aim .made
 
     abbrev outcome : Outcome model.OnChannel
     outcome = onRecord (abs u .protocol .forwarding) now rec (onFor u (w .wf) a rec aim)
 
-    module _ (d : OnChannel) (s : OnStep) (v : View) (n : Tally) (x : Bool)
-        (f : s ≡ stepOn (onRecord (isSet (u .forwarding)) (u .latest) (getD (b .records) i z) (absOn (openedOn (aim .new) a (getD (b .records) i z) (getD (u .ons) (aim .at) d)))) (openedOn (aim .new) a (getD (b .records) i z) (getD (u .ons) (aim .at) d)))
-        (g : v ≡ model.onView (absOn (s .channel)))
-        (q : n ≡ tallied (s .code) v done)
-        (y : x ≡ drops (s .code)) where
-      on-is : s ≡ stepOn outcome (reprOn (onFor u (w .wf) a rec aim))
-      on-is = on-step-is u (w .wf) a rec aim on-aim now d s (w .now) f
+    on-step-model : recordStep now a rec (abs u) ≡ judgedOn outcome rec (abs u)
+    on-step-model = step-on now a rec (abs u) room (on-aim .made) (on-aim .on) (on-aim .place)
 
-      on-step-model : recordStep now a rec (abs u) ≡ judgedOn outcome rec (abs u)
-      on-step-model = step-on now a rec (abs u) room (on-aim .made) (on-aim .on) (on-aim .place)
+    module _ (d x : OnChannel) (f : x ≡ openedOn (aim .new) a (getD (b .records) i z) (getD (u .ons) (aim .at) d)) where
+      pub on-form : WfOn x
+      on-form = opened-on-wf x (getD (u .ons) (aim .at) d) (aim .new) a rec (on-wf-at u (w .wf) (aim .at) d (on-aim .room)) f
 
-      on-tally : n ≡ next done (judgedOn outcome rec (abs u) .result)
-      on-tally =
-          q ∙ ap (λ (y : View). tallied (s .code) y done) g ∙ ap (λ (y : OnStep). tallied (y .code) (model.onView (absOn (y .channel))) done) on-is
-          ∙ sym (on-next a (indexOf rec) rec (abs u) outcome (reprOn (onFor u (w .wf) a rec aim)) done)
+      on-is : stepOn (onRecord (abs u .protocol .forwarding) now rec (absOn x)) x ≡ stepOn outcome (reprOn (onFor u (w .wf) a rec aim))
+      on-is = on-step-is u (w .wf) a rec aim on-aim (abs u .protocol .forwarding) now d x f
 
-      -- 10 and 11
-      pub turn-on-dropped : x ≡ true → Turning t a b u keys n (i + 1)
-      turn-on-dropped k =
-          let l : judgedOn outcome rec (abs u) .state ≡ abs u = on-dropped a (indexOf rec) rec (abs u) outcome (reprOn (onFor u (w .wf) a rec aim)) (on-keyed a now rec (abs u .protocol)) (ap (λ (y : OnStep). drops (y .code)) (sym on-is) ∙ sym y ∙ k) in
-          turned t a b u keys done i z w h u keys n (judgedOn outcome rec (abs u)) on-step-model (w .wf .form ∙ ap (λ (y : model.State). repr y) (sym l)) (w .keyed) on-tally
+      module _ (k : ℕ) (g : k ≡ onCode (t .latest) (getD (b .records) i z) x) where
+        on-code-is : k ≡ stepOn outcome (reprOn (onFor u (w .wf) a rec aim)) .code
+        on-code-is = g ∙ code-forwarded x rec now (abs u .protocol .forwarding) ∙ ap (λ (s : OnStep). s .code) on-is
 
-      pub turn-on-kept : (l : Keys) (o : ℕ) → x ≡ false → o ≡ inUse (u .oncount) (aim .new) → l ≡ withOnKey keys (aim .at) (s .channel .address) (s .channel .index)
-          → Turning t a b
-          (record {
-            latest = u .latest;
-            forwarding = u .forwarding;
-            prefix = getD (b .records) i z .prefix;
-            offset = u .offset;
-            source = u .source;
-            offcount = u .offcount;
-            oncount = o;
-            offs = u .offs;
-            ons = set (u .ons) (aim .at) (s .channel);
-          })
-          l n (i + 1)
-      turn-on-kept l o k c m =
-          let p : KeptOn a (indexOf rec) rec (abs u) (judgedOn outcome rec (abs u) .state) (stepOn outcome (reprOn (onFor u (w .wf) a rec aim)) .channel) = on-kept a (indexOf rec) rec (abs u) outcome (reprOn (onFor u (w .wf) a rec aim)) (on-keyed a now rec (abs u .protocol)) (ap (λ (y : OnStep). drops (y .code)) (sym on-is) ∙ sym y ∙ k) in
-          let j : s .channel ≡ reprOn (p .channel) = ap (λ (y : OnStep). y .channel) on-is ∙ p .form in
-          turned t a b u keys done i z w h (storedOn u (w .wf) a rec aim o (s .channel)) l n (judgedOn outcome rec (abs u)) on-step-model
-          ((λ q. storedOn u (w .wf) a rec aim (c q) (j q)) ∙ on-stored u (w .wf) a rec aim on-aim (p .channel) (p .key) ∙ ap (λ (y : model.State). repr y) (sym (p .state)))
-          (m ∙ on-keys u (w .wf) a rec aim keys o (s .channel) (w .keyed)) on-tally
+        on-seen : (v : View) (n : Tally) → v ≡ model.onView (absOn (stepOn outcome (reprOn (onFor u (w .wf) a rec aim)) .channel)) → n ≡ tallied k v done → n ≡ next done (judgedOn outcome rec (abs u) .result)
+        on-seen v n p q = q ∙ (λ j. tallied (on-code-is j) (p j) done) ∙ sym (on-next a (indexOf rec) rec (abs u) outcome (reprOn (onFor u (w .wf) a rec aim)) done)
+
+        -- 10 and 11
+        pub turn-on-dropped : (y : Bool) (v : View) (n : Tally) → y ≡ drops k → not y ≡ false → v ≡ noView → n ≡ tallied k v done → Turning t a b u keys n (i + 1)
+        turn-on-dropped y v n p q r s =
+            let h₂ : drops k ≡ true = sym p ∙ not-false y q in
+            let l : judgedOn outcome rec (abs u) .state ≡ abs u = on-dropped a (indexOf rec) rec (abs u) outcome (reprOn (onFor u (w .wf) a rec aim)) (on-keyed a now rec (abs u .protocol)) (ap drops (sym on-code-is) ∙ h₂) in
+            let m : n ≡ tallied k (model.onView (absOn (stepOn outcome (reprOn (onFor u (w .wf) a rec aim)) .channel))) done = s ∙ ap (λ (x : View). tallied k x done) r ∙ unseen k _ done h₂ in
+            turned t a b u keys done i z w h u keys n (judgedOn outcome rec (abs u)) on-step-model (w .wf .form ∙ ap (λ (y : model.State). repr y) (sym l)) (w .keyed) (on-seen _ n refl m)
+
+        pub turn-on-kept : (y : Bool) (j : OnChannel) (v : View) (n : Tally) (l : Beside) → y ≡ drops k → not y ≡ true
+            → j ≡ stepOn (onRecord (isSet (u .forwarding)) (t .latest) (getD (b .records) i z) (absOn x)) x .channel
+            → v ≡ model.onView (absOn j) → n ≡ tallied k v done → l ≡ withOn beside (aim .at) (j .address) (j .index) (aim .new) (getD (b .records) i z .prefix)
+            → Turning t a b (changed u (u .latest) l (u .offs) (set (u .ons) (aim .at) j)) (l .keys) n (i + 1)
+        unfolding abs
+        turn-on-kept y j v n l p q m g₂ s e₂ =
+            let x₂ : j ≡ stepOn outcome (reprOn (onFor u (w .wf) a rec aim)) .channel = m ∙ ap (λ (y : OnStep). y .channel) on-is in
+            let k₂ : KeptOn a (indexOf rec) rec (abs u) (judgedOn outcome rec (abs u) .state) (stepOn outcome (reprOn (onFor u (w .wf) a rec aim)) .channel) = on-kept a (indexOf rec) rec (abs u) outcome (reprOn (onFor u (w .wf) a rec aim)) (on-keyed a now rec (abs u .protocol)) (ap drops (sym on-code-is) ∙ sym p ∙ not-true y q) in
+            turned t a b u keys done i z w h (storedOn u (w .wf) a rec aim l j) (l .keys) n (judgedOn outcome rec (abs u)) on-step-model
+            ((λ q. storedOn u (w .wf) a rec aim (e₂ q) ((x₂ ∙ k₂ .form) q)) ∙ on-stored u (w .wf) a rec aim on-aim (k₂ .channel) (k₂ .key) keys ∙ ap (λ (y : model.State). repr y) (sym (k₂ .state)))
+            (ap (λ (y : Beside). y .keys) e₂ ∙ on-keys u (w .wf) a rec aim keys l j (w .keyed)) (on-seen v n (g₂ ∙ ap (λ (y : OnChannel). model.onView (absOn y)) x₂) s)
 
   module _ (aim : Aim) (e : aim ≡ aimed keys (u .offcount) (u .oncount) a (getD (b .records) i z)) (c : aim .code ≡ 0) (o : getD (b .records) i z .on ≡ 1 → ⊥) where
     off-aim : OffAim u a rec aim
@@ -327,53 +319,43 @@ module _ (t : Table) (a : ℕ) (b : Batch) (u : Table) (keys : Keys) (done : Tal
     pub off-index : aim .at < 4
     off-index = off-aim .room
 
-    pub off-form : (d : OffChannel) → WfOff (getD (u .offs) (aim .at) d)
-    off-form d = off-wf-at u (w .wf) (aim .at) d (off-aim .room)
-
     pub off-made : wellMade (getD (b .records) i z) ≡ true
     off-made = off-aim .made
 
     abbrev offOutcome : Outcome model.OffChannel
     offOutcome = offRecord now rec (offFor u (w .wf) a rec aim)
 
-    module _ (d : OffChannel) (s : OffStep) (v : View) (n : Tally) (x : Bool)
-        (f : s ≡ stepOff (offRecord (u .latest) (getD (b .records) i z) (absOff (openedOff (aim .new) a (getD (u .offs) (aim .at) d)))) (openedOff (aim .new) a (getD (u .offs) (aim .at) d)))
-        (g : v ≡ model.offView (absOff (s .channel)))
-        (q : n ≡ tallied (s .code) v done)
-        (y : x ≡ drops (s .code)) where
-      off-is : s ≡ stepOff offOutcome (reprOff (offFor u (w .wf) a rec aim))
-      off-is = off-step-is u (w .wf) a rec aim off-aim now d s (w .now) f
+    off-step-model : recordStep now a rec (abs u) ≡ judgedOff offOutcome rec (abs u)
+    off-step-model = step-off now a rec (abs u) room (off-aim .made) (off-aim .off) (off-aim .place)
 
-      off-step-model : recordStep now a rec (abs u) ≡ judgedOff offOutcome rec (abs u)
-      off-step-model = step-off now a rec (abs u) room (off-aim .made) (off-aim .off) (off-aim .place)
+    module _ (d x : OffChannel) (f : x ≡ openedOff (aim .new) a (getD (u .offs) (aim .at) d)) where
+      pub off-form : WfOff x
+      off-form = opened-off-wf x (getD (u .offs) (aim .at) d) (aim .new) a (off-wf-at u (w .wf) (aim .at) d (off-aim .room)) f
 
-      off-tally : n ≡ next done (judgedOff offOutcome rec (abs u) .result)
-      off-tally =
-          q ∙ ap (λ (y : View). tallied (s .code) y done) g ∙ ap (λ (y : OffStep). tallied (y .code) (model.offView (absOff (y .channel))) done) off-is
-          ∙ sym (off-next a (indexOf rec) rec (abs u) offOutcome (reprOff (offFor u (w .wf) a rec aim)) done)
+      off-is : stepOff (offRecord now rec (absOff x)) x ≡ stepOff offOutcome (reprOff (offFor u (w .wf) a rec aim))
+      off-is = off-step-is u (w .wf) a rec aim off-aim now d x f
 
-      pub turn-off-dropped : x ≡ true → Turning t a b u keys n (i + 1)
-      turn-off-dropped k =
-          let l : judgedOff offOutcome rec (abs u) .state ≡ abs u = off-dropped a (indexOf rec) rec (abs u) offOutcome (reprOff (offFor u (w .wf) a rec aim)) (off-keyed a now rec (abs u .protocol)) (ap (λ (y : OffStep). drops (y .code)) (sym off-is) ∙ sym y ∙ k) in
-          turned t a b u keys done i z w h u keys n (judgedOff offOutcome rec (abs u)) off-step-model (w .wf .form ∙ ap (λ (y : model.State). repr y) (sym l)) (w .keyed) off-tally
+      module _ (k : ℕ) (g : k ≡ offCode (t .latest) (getD (b .records) i z) x) where
+        off-code-is : k ≡ stepOff offOutcome (reprOff (offFor u (w .wf) a rec aim)) .code
+        off-code-is = g ∙ ap (λ (s : OffStep). s .code) off-is
 
-      pub turn-off-kept : (l : Keys) (o : ℕ) → x ≡ false → o ≡ inUse (u .offcount) (aim .new) → l ≡ withOffKey keys (aim .at) (s .channel .address)
-          → Turning t a b
-          (record {
-            latest = u .latest;
-            forwarding = u .forwarding;
-            prefix = getD (b .records) i z .prefix;
-            offset = u .offset;
-            source = u .source;
-            offcount = o;
-            oncount = u .oncount;
-            offs = set (u .offs) (aim .at) (s .channel);
-            ons = u .ons;
-          })
-          l n (i + 1)
-      turn-off-kept l o k c m =
-          let p : KeptOff a rec (abs u) (judgedOff offOutcome rec (abs u) .state) (stepOff offOutcome (reprOff (offFor u (w .wf) a rec aim)) .channel) = off-kept a (indexOf rec) rec (abs u) offOutcome (reprOff (offFor u (w .wf) a rec aim)) (off-keyed a now rec (abs u .protocol)) (ap (λ (y : OffStep). drops (y .code)) (sym off-is) ∙ sym y ∙ k) in
-          let j : s .channel ≡ reprOff (p .channel) = ap (λ (y : OffStep). y .channel) off-is ∙ p .form in
-          turned t a b u keys done i z w h (storedOff u (w .wf) a rec aim o (s .channel)) l n (judgedOff offOutcome rec (abs u)) off-step-model
-          ((λ q. storedOff u (w .wf) a rec aim (c q) (j q)) ∙ off-stored u (w .wf) a rec aim off-aim (p .channel) (p .key) ∙ ap (λ (y : model.State). repr y) (sym (p .state)))
-          (m ∙ off-keys u (w .wf) a rec aim keys o (s .channel) (w .keyed)) off-tally
+        off-seen : (v : View) (n : Tally) → v ≡ model.offView (absOff (stepOff offOutcome (reprOff (offFor u (w .wf) a rec aim)) .channel)) → n ≡ tallied k v done → n ≡ next done (judgedOff offOutcome rec (abs u) .result)
+        off-seen v n p q = q ∙ (λ j. tallied (off-code-is j) (p j) done) ∙ sym (off-next a (indexOf rec) rec (abs u) offOutcome (reprOff (offFor u (w .wf) a rec aim)) done)
+
+        pub turn-off-dropped : (y : Bool) (v : View) (n : Tally) → y ≡ drops k → not y ≡ false → v ≡ noView → n ≡ tallied k v done → Turning t a b u keys n (i + 1)
+        turn-off-dropped y v n p q r s =
+            let h₂ : drops k ≡ true = sym p ∙ not-false y q in
+            let l : judgedOff offOutcome rec (abs u) .state ≡ abs u = off-dropped a (indexOf rec) rec (abs u) offOutcome (reprOff (offFor u (w .wf) a rec aim)) (off-keyed a now rec (abs u .protocol)) (ap drops (sym off-code-is) ∙ h₂) in
+            let m : n ≡ tallied k (model.offView (absOff (stepOff offOutcome (reprOff (offFor u (w .wf) a rec aim)) .channel))) done = s ∙ ap (λ (x : View). tallied k x done) r ∙ unseen k _ done h₂ in
+            turned t a b u keys done i z w h u keys n (judgedOff offOutcome rec (abs u)) off-step-model (w .wf .form ∙ ap (λ (y : model.State). repr y) (sym l)) (w .keyed) (off-seen _ n refl m)
+
+        pub turn-off-kept : (y : Bool) (j : OffChannel) (v : View) (n : Tally) (l : Beside) → y ≡ drops k → not y ≡ true
+            → j ≡ stepOff (offRecord (t .latest) (getD (b .records) i z) (absOff x)) x .channel
+            → v ≡ model.offView (absOff j) → n ≡ tallied k v done → l ≡ withOff beside (aim .at) (j .address) (aim .new) (getD (b .records) i z .prefix)
+            → Turning t a b (changed u (u .latest) l (set (u .offs) (aim .at) j) (u .ons)) (l .keys) n (i + 1)
+        turn-off-kept y j v n l p q m g₂ s e₂ =
+            let x₂ : j ≡ stepOff offOutcome (reprOff (offFor u (w .wf) a rec aim)) .channel = m ∙ ap (λ (y : OffStep). y .channel) off-is in
+            let k₂ : KeptOff a rec (abs u) (judgedOff offOutcome rec (abs u) .state) (stepOff offOutcome (reprOff (offFor u (w .wf) a rec aim)) .channel) = off-kept a (indexOf rec) rec (abs u) offOutcome (reprOff (offFor u (w .wf) a rec aim)) (off-keyed a now rec (abs u .protocol)) (ap drops (sym off-code-is) ∙ sym p ∙ not-true y q) in
+            turned t a b u keys done i z w h (storedOff u (w .wf) a rec aim l j) (l .keys) n (judgedOff offOutcome rec (abs u)) off-step-model
+            ((λ q. storedOff u (w .wf) a rec aim (e₂ q) ((x₂ ∙ k₂ .form) q)) ∙ off-stored u (w .wf) a rec aim off-aim (k₂ .channel) (k₂ .key) keys ∙ ap (λ (y : model.State). repr y) (sym (k₂ .state)))
+            (ap (λ (y : Beside). y .keys) e₂ ∙ off-keys u (w .wf) a rec aim keys l j (w .keyed)) (off-seen v n (g₂ ∙ ap (λ (y : OffChannel). model.offView (absOff y)) x₂) s)

@@ -4,5 +4,4 @@ pub mod Answer
 pub mod Turn
 pub mod Aims
 pub mod Arms
-pub mod Small
 pub mod Door

@@ -1,13 +1,16 @@
 -- One record of a delivery, as the loop takes it: the table, its keys and the answer so far stand for what is left of the model's
 -- delivery. Assumes nothing.
 use mathlib.Core.Path.{_≡_, refl, ap, sym, subst, _∙_}
-use mathlib.Core.Bool.{true}
+use mathlib.Core.Bool.{Bool, true, false, cond}
 use mathlib.Core.List.{List, [], _∷_}
+use mathlib.Core.Logic.{_⊎_, inl, inr, ⊎-elim}
 use Prim.Native.Nat.{ℕ, suc, _+_, _-_, _*_, _≤_, _<_}
 use native.Mathlib.Omega.{arith}
 use native.Mathlib.Numerals.{add-one}
 use mir.Syntax.{w64}
 use mir.Val.{Fits}
+use borrow.Author.Tests.{eq-eqb, ne-eqb, eqb-true, eqb-false}
+use lib.Dec.{eqb}
 use lib.ListN.{length, drop, getD, drop-of-length-le}
 use lib.Seq.{drop-cons}
 use Rattle.lists.specs.Pad.{pad}
@@ -15,6 +18,8 @@ use Rattle.lists.proofs.Pad.{getD-default, length-pad, getD-pad}
 use Rattle.packet.specs.declared.Record.{Record}
 use Rattle.packet.specs.Data.{noRecord}
 use Rattle.model.specs.State as model
+use Rattle.model.specs.Refusals.{number}
+use Rattle.calls.specs.Answers.{noView}
 use Rattle.model.specs.Port.{Result, takes, refuses, Recorded, Played, ahead, play, recordStep}
 use Rattle.model.specs.Wellformed.{wellFormed}
 use Rattle.kept.proofs.Record.{At, recorded}
@@ -22,14 +27,17 @@ use Rattle.kept.proofs.Table.{well-facts, well-test}
 use Rattle.table.specs.declared.Keys.{Keys}
 use Rattle.table.specs.declared.Table.{Table}
 use Rattle.table.specs.Keys.{keysOf}
-use Rattle.table.specs.Table.{abs, repr, Wf}
+use Rattle.table.specs.Table.{abs, repr, Wf, timeSet}
 use Rattle.table.proofs.Places.{few-offs, few-ons, abs-repr, repr-wf}
 use Rattle.table.proofs.Test.{meets-parts, form-offcount, form-oncount}
 use Rattle.calls.specs.declared.Batch.{Batch}
 use Rattle.calls.specs.declared.Delivered.{Delivered}
 use Rattle.calls.specs.Calls.{recordsOf}
-use Rattle.receive.specs.declared.Tally.{Tally}
-use Rattle.receive.specs.Receive.{noTally, next, after, answered, delivery}
+use Rattle.delivery.specs.declared.Beside.{Beside}
+use Rattle.delivery.specs.declared.Start.{Start}
+use Rattle.delivery.specs.declared.Tally.{Tally}
+use Rattle.delivery.specs.Delivery.{noTally, next, after, changed, answered}
+use Rattle.receive.specs.Receive.{delivery, Begins, deliveredFrom}
 use Rattle.receive.proofs.Answer.{answer-is}
 
 -- ---- the loop: i records are done, and what is left of the delivery ends as the whole does
@@ -53,23 +61,33 @@ few-off u w = omega (arith, form-offcount u w, few-offs u w)
 few-on : (u : Table) → Wf u → u .oncount ≤ 8
 few-on u w = omega (arith, form-oncount u w, few-ons u w)
 
-pub turning-start : (t : Table) (a : ℕ) (b : Batch) (keys : Keys) (done : Tally) → Wf t → b .count ≤ 8 → length (b .records) ≡ 8 → keys ≡ keysOf t → done ≡ noTally → Turning t a b t keys done 0
-turning-start t a b keys done w f p k d =
+-- where there is a record, the answer before it does not tell
+next-any : (d : Tally) (x : Result) → d .count ≡ 0 → next d x ≡ next noTally x
+next-any d (takes v) e = λ k. record { code = 0; count = e k + 1; view = v }
+next-any d (refuses x) e = λ k. record { code = number x; count = e k; view = noView }
+
+after-any : (T a : ℕ) (s : model.State) (d : Tally) (rs : List Record) → d .count ≡ 0 → (length rs ≡ 0 → ⊥) → after d (play T a rs s .results) ≡ after noTally (play T a rs s .results)
+unfolding play after
+after-any T a s d [] e h = absurd (h refl)
+after-any T a s d (r ∷ rs) e h = ap (λ (x : Tally). after x (play T a rs (recordStep T a r s .state) .results)) (next-any d (recordStep T a r s .result) e)
+
+turning-start : (t : Table) (a : ℕ) (b : Batch) (keys : Keys) (done : Tally) → Wf t → b .count ≤ 8 → (b .count ≡ 0 → ⊥) → length (b .records) ≡ 8 → keys ≡ keysOf t → done .count ≡ 0 → Turning t a b t keys done 0
+turning-start t a b keys done w f n p k d =
     record {
       few = f;
       places = p;
       below = omega arith;
-      counted = rw d (omega arith);
+      counted = omega (arith, d);
       wf = w;
       now = refl;
       keyed = k;
       offs = few-off t w;
       ons = few-on t w;
-      results = ap (λ (x : Tally). after x (play (t .latest) a (recordsOf b) (abs t) .results)) d;
+      results = after-any (t .latest) a (abs t) done (recordsOf b) d (λ e. n (sym (length-pad (b .count) noRecord (b .records)) ∙ e));
       ending = refl;
     }
 
-pub turning-end : (t : Table) (a : ℕ) (b : Batch) (u : Table) (keys : Keys) (done : Tally) (i : ℕ) (d : Delivered) → Turning t a b u keys done i → b .count ≤ i → d ≡ answered u done → d ≡ delivery t a b
+turning-end : (t : Table) (a : ℕ) (b : Batch) (u : Table) (keys : Keys) (done : Tally) (i : ℕ) (d : Delivered) → Turning t a b u keys done i → b .count ≤ i → d ≡ answered u done → d ≡ delivery t a b
 unfolding delivery play after
 turning-end t a b u keys done i d w h e =
     let p = play (t .latest) a (recordsOf b) (abs t) in
@@ -77,6 +95,67 @@ turning-end t a b u keys done i d w h e =
     let r : done ≡ after noTally (p .results) = rw x at (w .results) in
     let s : abs u ≡ p .state = rw x at (w .ending) in
     e ∙ (λ k. answered ((w .wf .form ∙ ap (λ (q : model.State). repr q) s) k) (r k)) ∙ answer-is p
+
+-- ---- a refused delivery has no turn, and leaves the table and its refusal
+
+pub record Stopped (t : Table) (n : ℕ) (first : Tally) (u : Table) (done : Tally) : Type 0 where
+  pub none : n ≡ 0
+  pub table : u ≡ t
+  pub tally : done ≡ first
+
+pub record Going (t : Table) (a : ℕ) (b : Batch) (n : ℕ) (u : Table) (keys : Keys) (done : Tally) (i : ℕ) : Type 0 where
+  pub some : n ≡ 0 → ⊥
+  pub all : n ≡ b .count
+  pub turning : Turning t a b u keys done i
+
+abbrev pub Running : Table → ℕ → Batch → ℕ → Tally → Table → Keys → Tally → ℕ → Type 0
+Running t a b n first u keys done i = Stopped t n first u done ⊎ Going t a b n u keys done i
+
+-- the time is no part of the keys
+keys-timed : (n : ℕ) (t : Table) → keysOf t ≡ keysOf (timeSet n t)
+unfolding keysOf
+keys-timed n t = refl
+
+running-from : (t : Table) (a : ℕ) (b : Batch) (n : ℕ) (first : Tally) (keys : Keys) → ((n ≡ 0 → ⊥) → Wf t × (n ≡ b .count) × (n ≤ 8) × (first .count ≡ 0)) → length (b .records) ≡ 8 → keys ≡ keysOf t
+    → Running t a b n first t keys first 0
+running-from t a b n first keys s p k = at (eqb n 0) refl
+  where
+    at : (x : Bool) → eqb n 0 ≡ x → Running t a b n first t keys first 0
+    at true q = inl (record { none = eqb-true n 0 q; table = refl; tally = refl })
+    at false q =
+        let g = s (eqb-false n 0 q) in
+        let c : n ≡ b .count = g .1 in
+        inr (record { some = eqb-false n 0 q; all = c; turning = turning-start t a b keys first (g .0) (omega (arith, g .2, c)) (λ e. eqb-false n 0 q (c ∙ e)) p k (g .3) })
+
+pub running-start : (s : Start) (l : Beside) (t : Table) (a : ℕ) (b : Batch) → Begins s l t b → length (b .records) ≡ 8
+    → Running (timeSet (s .latest) t) a b (s .n) (s .done) (changed t (s .latest) l (t .offs) (t .ons)) (l .keys) (s .done) 0
+running-start s l t a b g p =
+    subst (λ (x : Beside). Running (timeSet (s .latest) t) a b (s .n) (s .done) (changed t (s .latest) x (t .offs) (t .ons)) (x .keys) (s .done) 0) (sym (g .1))
+    (running-from (timeSet (s .latest) t) a b (s .n) (s .done) (keysOf t) (g .0) p (keys-timed (s .latest) t))
+
+pub running-end : (s : Start) (t : Table) (a : ℕ) (b : Batch) (u : Table) (keys : Keys) (done : Tally) (i : ℕ) (d : Delivered) → Running (timeSet (s .latest) t) a b (s .n) (s .done) u keys done i → s .n ≤ i → d ≡ answered u done
+    → d ≡ deliveredFrom s t a b
+unfolding deliveredFrom
+running-end s t a b u keys done i d r h e =
+    let v = timeSet (s .latest) t in
+    let n = s .n in
+    ⊎-elim
+    (λ x. e ∙ (λ k. answered (x .table k) (x .tally k)) ∙ sym (ap (λ (y : Bool). cond y (answered v (s .done)) (delivery v a b)) (eq-eqb n 0 (x .none))))
+    (λ g. turning-end v a b u keys done i d (g .turning) (let c = g .all in omega (arith, c, h)) e ∙ sym (ap (λ (y : Bool). cond y (answered v (s .done)) (delivery v a b)) (ne-eqb n 0 (g .some))))
+    r
+
+module _ (t : Table) (a : ℕ) (b : Batch) (n : ℕ) (first : Tally) (u : Table) (keys : Keys) (done : Tally) (i : ℕ) (r : Running t a b n first u keys done i) (h : i < n) where
+  going : Going t a b n u keys done i
+  going = ⊎-elim (λ s. let e = s .none in absurd (omega (arith, e, h))) (λ g. g) r
+
+  pub turning-of : Turning t a b u keys done i
+  turning-of = going .turning
+
+  pub below-of : i < b .count
+  below-of = let e = going .all in omega (arith, e, h)
+
+  pub running-again : (v : Table) (l : Keys) (d : Tally) → Turning t a b v l d (i + 1) → Running t a b n first v l d (i + 1)
+  running-again v l d w = inr (record { some = going .some; all = going .all; turning = w })
 
 -- ---- the numbers of a turn
 

@@ -1,7 +1,3 @@
-pub mod Room
-pub mod Frame
-pub mod Parts
+mod Parts
+pub mod Drops
 pub mod On
-pub mod Off
-pub mod Forward
-pub mod Keeps

@@ -5,7 +5,7 @@ use mathlib.Core.List.{[], _∷_, _++_}
 use Prim.Native.Nat.{ℕ, _+_, _≤_, _<_}
 use native.Mathlib.Omega.{arith}
 use borrow.Author.Needs.{needs}
-use borrow.Author.Tests.{eq-eqb, ne-eqb, lt-ltb, le-ltb, not-true, not-false}
+use borrow.Author.Tests.{eq-eqb, ne-eqb, lt-ltb, le-ltb, ltb-true, ltb-false, not-true, not-false}
 use lib.Dec.{ltb, eqb}
 use lib.ListN.{length, length-append}
 use Rattle.seq.specs.Num.{sub}
@@ -16,7 +16,7 @@ use Rattle.model.specs.State as model
 use Rattle.model.specs.Reorder.{Reliable, reorder, arrive}
 use Rattle.model.specs.Refusals.{lastNotExpected}
 use Rattle.model.specs.Group.{Stored, done, beyond, panics, addInPacket}
-use Rattle.model.specs.Record.{Outcome, rejected, observedIf, withReliable, queued, runOf, reliableIn, storedOn, looseOn, lastGiven, rulesOn, current, onRecord}
+use Rattle.model.specs.Record.{Outcome, rejected, observedIf, reliableOf, withReliable, queued, runOf, reliableIn, storedOn, looseOn, lastGiven, rulesOn, current, onRecord}
 use Rattle.model.specs.Room.{fitsOn}
 use Rattle.out_list.specs.declared.OutList.{OutList}
 use Rattle.out_list.specs.Out as Out
@@ -36,9 +36,11 @@ use Rattle.channel.specs.declared.OnChannel.{OnChannel}
 use Rattle.channel.specs.declared.OnStep.{OnStep}
 use Rattle.channel.specs.Channel.{absOn, reprOn, WfOn, roomOn, stepOn}
 use Rattle.channel.proofs.Laws.{form-on}
-use Rattle.records.specs.Records.{acked, takenIn, onAcked}
-use Rattle.records.proofs.Room.{acked-le, reliable-room, no-room-on, loose-room-on}
-use Rattle.records.proofs.Frame.{beside, zero-fits, else-over, added-beside}
+use Rattle.rules.specs.Rules.{acked}
+use Rattle.rules.proofs.Room.{acked-le, reliable-room, no-room-on, loose-room-on}
+use Rattle.rules.proofs.Frame.{beside, added-beside, zero-fits, packet-zero}
+use Rattle.records.specs.Records.{takenIn, onAcked, onCode, drops}
+use Rattle.records.proofs.Drops.{never, added-zero}
 
 -- ---- taken_in
 
@@ -58,7 +60,7 @@ taken-in-done c r f m l a n le ae ne =
       queue = m .queue;
     }
 
--- ---- reliable_in
+-- ---- reliable_code, reliable_in
 
 run-step : (t : Bool) (x : model.OnChannel) (c : OnChannel) → stepOn (runOf t x) c ≡ roomOn (fitsOn x) x c
 unfolding stepOn
@@ -80,61 +82,92 @@ module _ (c : OnChannel) (r : Record) (f : ℕ) (w : WfOn c) where
   acks-more : length (Acks.abs (c .acks) ++ r .number ∷ []) ≡ c .acks .len + 1
   acks-more = omega (arith, length-append (Acks.abs (c .acks)) (r .number ∷ []), Queues.wf-len (c .acks) (w .acks))
 
+  full-is : 64 ≤ c .acks .len → stepOn (reliableIn (isSet f) r (onAcked r (absOn c))) c ≡ record { code = 11; channel = c }
+  full-is h = after-is ∙ ap (λ (t : Bool). roomOn t after c) (no-room-on after (omega (arith, acks-more)))
+
+  step-is : c .acks .len < 64 → stepOn (reliableIn (isSet f) r (onAcked r (absOn c))) c ≡ roomOn (within rel) after c
+  step-is h =
+      after-is
+      ∙ ap (λ (t : Bool). roomOn t after c) (reliable-room after (omega (arith, acked-le r (Out.abs (c .out)), Outs.wf-le (c .out) (w .out))) (omega (arith, acks-more)) (Many.wf-few (c .groups) (w .groups)) (Many.all-fit (c .groups) (w .groups)))
+
+module _ (c : OnChannel) (r : Record) (w : WfOn c) where
+  abbrev reliableCode : ℕ
+  reliableCode = stepOn (reliableIn false r (onAcked r (absOn c))) c .code
+
   -- a 65th ack
-  pub reliable-full : 64 ≤ c .acks .len → _≡_ {A = OnStep} (record { code = 11; channel = c }) (stepOn (reliableIn (isSet f) r (onAcked r (absOn c))) c)
-  reliable-full h = sym (after-is ∙ ap (λ (t : Bool). roomOn t after c) (no-room-on after (omega (arith, acks-more))))
+  pub reliable-full : 64 ≤ c .acks .len → 11 ≡ stepOn (reliableIn false r (onAcked r (absOn c))) c .code
+  reliable-full h = sym (ap (λ (s : OnStep). s .code) (full-is c r 0 w h))
 
-  module _ (h : c .acks .len < 64) where
-    step-is : stepOn (reliableIn (isSet f) r (onAcked r (absOn c))) c ≡ roomOn (within rel) after c
-    step-is =
-        after-is
-        ∙ ap (λ (t : Bool). roomOn t after c) (reliable-room after (omega (arith, acked-le r (Out.abs (c .out)), Outs.wf-le (c .out) (w .out))) (omega (arith, acks-more)) (Many.wf-few (c .groups) (w .groups)) (Many.all-fit (c .groups) (w .groups)))
+  code-is : c .acks .len < 64 → (b : Bool) → within (rel c r 0 w) ≡ b → reliableCode ≡ cond b 0 11
+  code-is h b q = ap (λ (s : OnStep). s .code) (step-is c r 0 w h ∙ ap (λ (t : Bool). roomOn t (after c r 0 w) c) q) ∙ at b
+    where
+      at : (t : Bool) → roomOn t (after c r 0 w) c .code ≡ cond t 0 11
+      at true = refl
+      at false = refl
 
-    module _ (p : Packet) (m : Reordered) (q : p ≡ packet r) (e : m ≡ received (c .expected) (c .buffer) (c .queue) (c .bundles) p) where
-      came : m ≡ cond (within rel) (changed rel) (unchanged (c .expected) (c .buffer) (c .queue) (c .bundles))
-      unfolding received
-      came = e ∙ ap (received (c .expected) (c .buffer) (c .queue) (c .bundles)) q
+  -- where the number is 0 the ack queue has room, and so have the reorder rule and the grouping
+  pub acks-room : stepOn (reliableIn false r (onAcked r (absOn c))) c .code ≡ 0 → c .acks .len < 64
+  acks-room z = at (ltb (c .acks .len) 64) refl
+    where
+      at : (b : Bool) → ltb (c .acks .len) 64 ≡ b → c .acks .len < 64
+      at true q = ltb-true (c .acks .len) 64 q
+      at false q = let e : _≡_ {A = ℕ} 11 0 = reliable-full (ltb-false (c .acks .len) 64 q) ∙ z in absurd (omega (arith, e))
 
-      fits-is : m .fits ≡ cond (within rel) 1 0
-      fits-is = ap (λ (x : Reordered). x .fits) came ∙ at (within rel)
-        where
-          at : (t : Bool) → cond t (changed rel) (unchanged (c .expected) (c .buffer) (c .queue) (c .bundles)) .fits ≡ cond t 1 0
-          at true = refl
-          at false = refl
+  rule-room : reliableCode ≡ 0 → within (rel c r 0 w) ≡ true
+  rule-room z = at (within (rel c r 0 w)) refl
+    where
+      at : (b : Bool) → within (rel c r 0 w) ≡ b → within (rel c r 0 w) ≡ true
+      at true q = q
+      at false q = let e : _≡_ {A = ℕ} 11 0 = sym (code-is (acks-room z) false q) ∙ z in absurd (omega (arith, e))
 
-      no-fits : (t : Bool) → m .fits ≡ cond t 1 0 → (m .fits ≡ 1 → ⊥) → t ≡ false
-      no-fits true x n = absurd (n x)
-      no-fits false x n = refl
+  module _ (p : Packet) (m : Reordered) (q : p ≡ packet r) (e : m ≡ received (c .expected) (c .buffer) (c .queue) (c .bundles) p) where
+    came : m ≡ cond (within (rel c r 0 w)) (changed (rel c r 0 w)) (unchanged (c .expected) (c .buffer) (c .queue) (c .bundles))
+    unfolding received
+    came = e ∙ ap (received (c .expected) (c .buffer) (c .queue) (c .bundles)) q
 
-      yes-fits : (t : Bool) → m .fits ≡ cond t 1 0 → m .fits ≡ 1 → t ≡ true
-      yes-fits true x y = refl
-      yes-fits false x y = absurd (omega arith)
+    fits-is : (b : Bool) → within (rel c r 0 w) ≡ b → m .fits ≡ cond b 1 0
+    fits-is b y = ap (λ (x : Reordered). x .fits) (came ∙ ap (λ (t : Bool). cond t (changed (rel c r 0 w)) (unchanged (c .expected) (c .buffer) (c .queue) (c .bundles))) y) ∙ at b
+      where
+        at : (t : Bool) → cond t (changed (rel c r 0 w)) (unchanged (c .expected) (c .buffer) (c .queue) (c .bundles)) .fits ≡ cond t 1 0
+        at true = refl
+        at false = refl
 
-      -- the reorder rule or the grouping finds no room
-      pub reliable-over : (m .fits ≡ 1 → ⊥) → _≡_ {A = OnStep} (record { code = 11; channel = c }) (stepOn (reliableIn (isSet f) r (onAcked r (absOn c))) c)
-      reliable-over n = sym (step-is ∙ ap (λ (t : Bool). roomOn t after c) (no-fits (within rel) fits-is n))
+    -- the reorder rule or the grouping finds no room
+    pub reliable-over : c .acks .len < 64 → (m .fits ≡ 1 → ⊥) → 11 ≡ stepOn (reliableIn false r (onAcked r (absOn c))) c .code
+    reliable-over h n = at (within (rel c r 0 w)) refl
+      where
+        at : (b : Bool) → within (rel c r 0 w) ≡ b → 11 ≡ reliableCode
+        at true y = absurd (n (fits-is true y))
+        at false y = sym (code-is h false y)
 
-      pub reliable-done : (d : OnChannel) → m .fits ≡ 1 → d ≡ takenIn (isSet f) r m c → _≡_ {A = OnStep} (record { code = 0; channel = d }) (stepOn (reliableIn (isSet f) r (onAcked r (absOn c))) c)
-      reliable-done d y de =
-          let t : within rel ≡ true = yes-fits (within rel) fits-is y in
-          let g : m ≡ changed rel = came ∙ ap (λ (b : Bool). cond b (changed rel) (unchanged (c .expected) (c .buffer) (c .queue) (c .bundles))) t in
-          let x : takenIn (isSet f) r m c ≡ reprOn after =
-          λ k. record {
-            address = c .address;
-            index = c .index;
-            version = c .version;
-            expected = g k .expected;
-            source = observedIf (isSet f) (c .source) (r .number);
-            out = Out.repr (acked r (Out.abs (c .out)));
-            acks = Acks.repr (Acks.abs (c .acks) ++ r .number ∷ []);
-            groups = w .groups k;
-            bundles = g k .bundles;
-            buffer = g k .buffer;
-            queue = g k .queue;
-          } in
-          (λ k. record { code = 0; channel = (de ∙ x) k }) ∙ sym (step-is ∙ ap (λ (b : Bool). roomOn b after c) t)
+    pub reliable-zero : c .acks .len < 64 → m .fits ≡ 1 → 0 ≡ stepOn (reliableIn false r (onAcked r (absOn c))) c .code
+    reliable-zero h n = at (within (rel c r 0 w)) refl
+      where
+        at : (b : Bool) → within (rel c r 0 w) ≡ b → 0 ≡ reliableCode
+        at true y = sym (code-is h true y)
+        at false y = absurd (omega (arith, n, fits-is false y))
 
--- ---- loose_on
+    pub reliable-taken : (f : ℕ) (d : OnChannel) → stepOn (reliableIn false r (onAcked r (absOn c))) c .code ≡ 0 → d ≡ takenIn (isSet f) r m c → d ≡ stepOn (reliableIn (isSet f) r (onAcked r (absOn c))) c .channel
+    reliable-taken f d z de =
+        let t : within (rel c r 0 w) ≡ true = rule-room z in
+        let g : m ≡ changed (rel c r 0 w) = came ∙ ap (λ (b : Bool). cond b (changed (rel c r 0 w)) (unchanged (c .expected) (c .buffer) (c .queue) (c .bundles))) t in
+        let x : takenIn (isSet f) r m c ≡ reprOn (after c r f w) =
+        λ k. record {
+          address = c .address;
+          index = c .index;
+          version = c .version;
+          expected = g k .expected;
+          source = observedIf (isSet f) (c .source) (r .number);
+          out = Out.repr (acked r (Out.abs (c .out)));
+          acks = Acks.repr (Acks.abs (c .acks) ++ r .number ∷ []);
+          groups = w .groups k;
+          bundles = g k .bundles;
+          buffer = g k .buffer;
+          queue = g k .queue;
+        } in
+        de ∙ x ∙ sym (ap (λ (s : OnStep). s .channel) (step-is c r f w (acks-room z) ∙ ap (λ (b : Bool). roomOn b (after c r f w) c) t))
+
+-- ---- loose_on, and the code of rule 6
 
 module _ (c : OnChannel) (r : Record) (t : ℕ) (w : WfOn c) where
   abbrev sortedOn : Stored
@@ -143,7 +176,10 @@ module _ (c : OnChannel) (r : Record) (t : ℕ) (w : WfOn c) where
   abbrev withOn : model.OffData → model.OnChannel
   withOn d = model.onWith (model.withOut (acked r (Out.abs (c .out))) (model.withAcks (Acks.abs (c .acks)) d)) (onAcked r (absOn c))
 
-  loose-on-is : looseOn t r (onAcked r (absOn c)) ≡ storedOn (onAcked r (absOn c)) (beside (acked r (Out.abs (c .out))) (Acks.abs (c .acks)) sortedOn)
+  abbrev saidOn : Stored → Outcome model.OnChannel
+  saidOn s = storedOn (onAcked r (absOn c)) (beside (acked r (Out.abs (c .out))) (Acks.abs (c .acks)) s)
+
+  loose-on-is : looseOn t r (onAcked r (absOn c)) ≡ saidOn sortedOn
   unfolding looseOn
   loose-on-is = ap (λ (s : Stored). storedOn (onAcked r (absOn c)) s) (added-beside (onAcked r (absOn c) .off) t (packet r))
 
@@ -151,55 +187,51 @@ module _ (c : OnChannel) (r : Record) (t : ℕ) (w : WfOn c) where
   room-on d =
       loose-room-on (withOn d) (omega (arith, acked-le r (Out.abs (c .out)), Outs.wf-le (c .out) (w .out))) (Queues.wf-le (c .acks) (w .acks)) (Waits.wf-le (c .buffer) (w .buffer)) (Waits.wf-le (c .queue) (w .queue))
 
-  module _ (p : Packet) (a : Added) (q : p ≡ packet r) (e : a ≡ added t p (c .groups) (c .bundles)) where
-    answer-on : a ≡ answer sortedOn (c .groups) (c .bundles)
-    unfolding added
-    answer-on = e ∙ ap (λ (x : Packet). added t x (c .groups) (c .bundles)) q
+  said-code : (s : Stored) → answer s (c .groups) (c .bundles) .code ≡ stepOn (saidOn s) c .code
+  unfolding stepOn
+  said-code beyond = refl
+  said-code (done d) = at (fitsLists d) ∙ sym (ap (λ (z : Bool). roomOn z (withOn d) c .code) (room-on d))
+    where
+      at : (b : Bool) → Frags.within b d (c .groups) (c .bundles) .code ≡ roomOn b (withOn d) c .code
+      at true = refl
+      at false = refl
 
-    refused-on : (s : Stored) → a ≡ answer s (c .groups) (c .bundles) → (a .code ≡ 0 → ⊥) → _≡_ {A = OnStep} (record { code = a .code; channel = c }) (stepOn (storedOn (onAcked r (absOn c)) (beside (acked r (Out.abs (c .out))) (Acks.abs (c .acks)) s)) c)
+  loose-on-code : added t (packet r) (c .groups) (c .bundles) .code ≡ stepOn (looseOn t r (onAcked r (absOn c))) c .code
+  unfolding added
+  loose-on-code = said-code sortedOn ∙ sym (ap (λ (x : Outcome model.OnChannel). stepOn x c .code) loose-on-is)
+
+  module _ (p : Packet) (a : Added) (q : p ≡ packet r) (e : a ≡ added t p (c .groups) (c .bundles)) (z : added t (packet r) (c .groups) (c .bundles) .code ≡ 0) (l : OutList) (le : l ≡ Out.repr (acked r (Out.abs (c .out)))) where
+    abbrev leftOn : OnChannel
+    leftOn = record { address = c .address; index = c .index; version = c .version; expected = c .expected; source = c .source; out = l; acks = c .acks; groups = a .groups; bundles = a .bundles; buffer = c .buffer; queue = c .queue }
+
+    taken-on : (s : Stored) → a ≡ answer s (c .groups) (c .bundles) → answer s (c .groups) (c .bundles) .code ≡ 0 → leftOn ≡ stepOn (saidOn s) c .channel
     unfolding stepOn
-    refused-on beyond x n = λ k. record { code = x k .code; channel = c }
-    refused-on (done d) x n =
-        let b : fitsLists d ≡ false = else-over (fitsLists d) d (c .groups) (c .bundles) a x n in
-        let y : a ≡ Frags.within false d (c .groups) (c .bundles) = x ∙ ap (λ (z : Bool). Frags.within z d (c .groups) (c .bundles)) b in
-        (λ k. record { code = y k .code; channel = c }) ∙ sym (ap (λ (z : Bool). roomOn z (withOn d) c) (room-on d ∙ b))
+    taken-on beyond x h = absurd (omega (arith, h))
+    taken-on (done d) x h =
+        let b : fitsLists d ≡ true = zero-fits (fitsLists d) d (c .groups) (c .bundles) h in
+        let y : a ≡ Frags.within true d (c .groups) (c .bundles) = x ∙ ap (λ (z : Bool). Frags.within z d (c .groups) (c .bundles)) b in
+        (λ k. record {
+          address = c .address;
+          index = c .index;
+          version = c .version;
+          expected = c .expected;
+          source = c .source;
+          out = le k;
+          acks = w .acks k;
+          groups = y k .groups;
+          bundles = y k .bundles;
+          buffer = w .buffer k;
+          queue = w .queue k;
+        })
+        ∙ sym (ap (λ (z : Bool). roomOn z (withOn d) c .channel) (room-on d ∙ b))
 
-    pub loose-on-refused : (a .code ≡ 0 → ⊥) → _≡_ {A = OnStep} (record { code = a .code; channel = c }) (stepOn (looseOn t r (onAcked r (absOn c))) c)
-    loose-on-refused n = refused-on sortedOn answer-on n ∙ sym (ap (λ (x : Outcome model.OnChannel). stepOn x c) loose-on-is)
+    pub loose-on-taken : leftOn ≡ stepOn (looseOn t r (onAcked r (absOn c))) c .channel
+    unfolding added
+    loose-on-taken =
+        taken-on sortedOn (e ∙ ap (λ (x : Packet). added t x (c .groups) (c .bundles)) q) z
+        ∙ sym (ap (λ (x : Outcome model.OnChannel). stepOn x c .channel) loose-on-is)
 
-    module _ (l : OutList) (le : l ≡ Out.repr (acked r (Out.abs (c .out)))) (h : a .code ≡ 0) where
-      abbrev stepped : OnStep
-      stepped = record { code = 0; channel = record { address = c .address; index = c .index; version = c .version; expected = c .expected; source = c .source; out = l; acks = c .acks; groups = a .groups; bundles = a .bundles; buffer = c .buffer; queue = c .queue } }
-
-      taken-on : (s : Stored) → a ≡ answer s (c .groups) (c .bundles) → stepped ≡ stepOn (storedOn (onAcked r (absOn c)) (beside (acked r (Out.abs (c .out))) (Acks.abs (c .acks)) s)) c
-      unfolding stepOn
-      taken-on beyond x = absurd (omega (arith, ap (λ (y : Added). y .code) x))
-      taken-on (done d) x =
-          let b : fitsLists d ≡ true = zero-fits (fitsLists d) d (c .groups) (c .bundles) a x h in
-          let y : a ≡ Frags.within true d (c .groups) (c .bundles) = x ∙ ap (λ (z : Bool). Frags.within z d (c .groups) (c .bundles)) b in
-          (λ k. record {
-            code = 0;
-            channel =
-                record {
-                  address = c .address;
-                  index = c .index;
-                  version = c .version;
-                  expected = c .expected;
-                  source = c .source;
-                  out = le k;
-                  acks = w .acks k;
-                  groups = y k .groups;
-                  bundles = y k .bundles;
-                  buffer = w .buffer k;
-                  queue = w .queue k;
-                };
-          })
-          ∙ sym (ap (λ (z : Bool). roomOn z (withOn d) c) (room-on d ∙ b))
-
-      pub loose-on-done : stepped ≡ stepOn (looseOn t r (onAcked r (absOn c))) c
-      loose-on-done = taken-on sortedOn answer-on ∙ sym (ap (λ (x : Outcome model.OnChannel). stepOn x c) loose-on-is)
-
--- ---- on_record
+-- ---- last_differs, and the ways of a record
 
 pub last-none : (r : Record) (e : ℕ) → (r .haslast ≡ 1 → ⊥) → false ≡ (isSet (r .haslast) && not (eqb (r .lastreliable) (sub e 1)))
 last-none r e h = sym (ap (λ (t : Bool). t && not (eqb (r .lastreliable) (sub e 1))) (ne-eqb (r .haslast) 1 h))
@@ -213,7 +245,7 @@ module _ (c : OnChannel) (r : Record) (t f v : ℕ) (e : v ≡ versionOf r) wher
   unfolding onRecord
   version-is = ap (λ (n : ℕ). current (ltb n (c .version)) (isSet f) t r (absOn c)) (sym e)
 
-  pub on-old : WfOn c → v < c .version → _≡_ {A = OnStep} (record { code = 5; channel = c }) (stepOn (onRecord (isSet f) t r (absOn c)) c)
+  on-old : WfOn c → v < c .version → _≡_ {A = OnStep} (record { code = 5; channel = c }) (stepOn (onRecord (isSet f) t r (absOn c)) c)
   unfolding stepOn
   on-old w h =
       (λ k. record { code = 5; channel = form-on c w k })
@@ -223,18 +255,18 @@ module _ (c : OnChannel) (r : Record) (t f v : ℕ) (e : v ≡ versionOf r) wher
     rules-on : stepOn (onRecord (isSet f) t r (absOn c)) c ≡ stepOn (rulesOn (isSet (r .reliable)) (isSet (r .haslast)) (isSet f) t r (onAcked r (absOn c))) c
     rules-on = ap (λ (x : Outcome model.OnChannel). stepOn x c) (version-is ∙ ap (λ (b : Bool). current b (isSet f) t r (absOn c)) (le-ltb v (c .version) h))
 
-    pub on-seven : (d : OnChannel) → r .reliable ≡ 1 → r .haslast ≡ 1 → d ≡ reprOn (onAcked r (absOn c)) → _≡_ {A = OnStep} (record { code = 7; channel = d }) (stepOn (onRecord (isSet f) t r (absOn c)) c)
+    on-seven : r .reliable ≡ 1 → r .haslast ≡ 1 → _≡_ {A = OnStep} (record { code = 7; channel = reprOn (onAcked r (absOn c)) }) (stepOn (onRecord (isSet f) t r (absOn c)) c)
     unfolding stepOn
-    on-seven d y z q =
+    on-seven y z =
         let a = eq-eqb (r .reliable) 1 y in
         let b = eq-eqb (r .haslast) 1 z in
-        (λ k. record { code = 7; channel = q k }) ∙ sym (rules-on ∙ (λ k. stepOn (rulesOn (a k) (b k) (isSet f) t r (onAcked r (absOn c))) c))
+        sym (rules-on ∙ (λ k. stepOn (rulesOn (a k) (b k) (isSet f) t r (onAcked r (absOn c))) c))
 
-    pub on-reliable : (s : OnStep) → r .reliable ≡ 1 → (r .haslast ≡ 1 → ⊥) → s ≡ stepOn (reliableIn (isSet f) r (onAcked r (absOn c))) c → s ≡ stepOn (onRecord (isSet f) t r (absOn c)) c
-    on-reliable s y z q =
+    on-reliable : r .reliable ≡ 1 → (r .haslast ≡ 1 → ⊥) → stepOn (reliableIn (isSet f) r (onAcked r (absOn c))) c ≡ stepOn (onRecord (isSet f) t r (absOn c)) c
+    on-reliable y z =
         let a = eq-eqb (r .reliable) 1 y in
         let b = ne-eqb (r .haslast) 1 z in
-        q ∙ sym (rules-on ∙ (λ k. stepOn (rulesOn (a k) (b k) (isSet f) t r (onAcked r (absOn c))) c))
+        sym (rules-on ∙ (λ k. stepOn (rulesOn (a k) (b k) (isSet f) t r (onAcked r (absOn c))) c))
 
     module _ (n : r .reliable ≡ 1 → ⊥) (b : Bool) (q : b ≡ (isSet (r .haslast) && not (eqb (r .lastreliable) (sub (c .expected) 1)))) where
       loose-rules : stepOn (onRecord (isSet f) t r (absOn c)) c ≡ stepOn (rulesOn false (isSet (r .haslast)) (isSet f) t r (onAcked r (absOn c))) c
@@ -248,12 +280,88 @@ module _ (c : OnChannel) (r : Record) (t f v : ℕ) (e : v ≡ versionOf r) wher
       agrees true y = ap (λ (z : Bool). lastGiven z t r (onAcked r (absOn c))) (not-false (eqb (r .lastreliable) (sub (c .expected) 1)) y)
       agrees false y = refl
 
-      pub on-eight : (d : OnChannel) → b ≡ true → d ≡ reprOn (onAcked r (absOn c)) → _≡_ {A = OnStep} (record { code = 8; channel = d }) (stepOn (onRecord (isSet f) t r (absOn c)) c)
+      on-eight : b ≡ true → _≡_ {A = OnStep} (record { code = 8; channel = reprOn (onAcked r (absOn c)) }) (stepOn (onRecord (isSet f) t r (absOn c)) c)
       unfolding stepOn
-      on-eight d y z =
-          (λ k. record { code = 8; channel = z k }) ∙ sym (loose-rules ∙ ap (λ (x : Outcome model.OnChannel). stepOn x c) (differs (isSet (r .haslast)) (sym q ∙ y)))
+      on-eight y = sym (loose-rules ∙ ap (λ (x : Outcome model.OnChannel). stepOn x c) (differs (isSet (r .haslast)) (sym q ∙ y)))
 
-      pub on-loose : (s : OnStep) → b ≡ false → s ≡ stepOn (looseOn t r (onAcked r (absOn c))) c → s ≡ stepOn (onRecord (isSet f) t r (absOn c)) c
-      on-loose s y z = z ∙ sym (loose-rules ∙ ap (λ (x : Outcome model.OnChannel). stepOn x c) (agrees (isSet (r .haslast)) (sym q ∙ y)))
+      on-loose : b ≡ false → stepOn (looseOn t r (onAcked r (absOn c))) c ≡ stepOn (onRecord (isSet f) t r (absOn c)) c
+      on-loose y = sym (loose-rules ∙ ap (λ (x : Outcome model.OnChannel). stepOn x c) (agrees (isSet (r .haslast)) (sym q ∙ y)))
 
-pub ruleset onward = (taken-in-done, reliable-full, reliable-over, reliable-done, loose-on-refused, loose-on-done, last-none, last-given, on-old, on-seven, on-reliable, on-eight, on-loose, needs)
+-- ---- on_code, on_taken
+
+module _ (c : OnChannel) (r : Record) (t v : ℕ) (e : v ≡ versionOf r) where
+  pub code-five : WfOn c → v < c .version → 5 ≡ onCode t r c
+  code-five w h = ap (λ (s : OnStep). s .code) (on-old c r t 0 v e w h)
+
+  pub left-five : (f : ℕ) → WfOn c → v < c .version → c ≡ stepOn (onRecord (isSet f) t r (absOn c)) c .channel
+  left-five f w h = ap (λ (s : OnStep). s .channel) (on-old c r t f v e w h)
+
+  module _ (h : c .version ≤ v) where
+    pub code-seven : r .reliable ≡ 1 → r .haslast ≡ 1 → 7 ≡ onCode t r c
+    code-seven y z = ap (λ (s : OnStep). s .code) (on-seven c r t 0 v e h y z)
+
+    pub left-seven : (f : ℕ) (d : OnChannel) → r .reliable ≡ 1 → r .haslast ≡ 1 → d ≡ reprOn (onAcked r (absOn c)) → d ≡ stepOn (onRecord (isSet f) t r (absOn c)) c .channel
+    left-seven f d y z q = q ∙ ap (λ (s : OnStep). s .channel) (on-seven c r t f v e h y z)
+
+    pub code-reliable : (k : ℕ) → r .reliable ≡ 1 → (r .haslast ≡ 1 → ⊥) → k ≡ stepOn (reliableIn false r (onAcked r (absOn c))) c .code → k ≡ onCode t r c
+    code-reliable k y z q = q ∙ ap (λ (s : OnStep). s .code) (on-reliable c r t 0 v e h y z)
+
+    -- a reliable record's number is 0 or 11
+    pub reliable-granted : r .reliable ≡ 1 → (r .haslast ≡ 1 → ⊥) → WfOn c → drops (onCode t r c) ≡ false → stepOn (reliableIn false r (onAcked r (absOn c))) c .code ≡ 0
+    reliable-granted y z w g = ap (λ (s : OnStep). s .code) (after-is c r 0 w) ∙ at (fitsOn (after c r 0 w)) (ap (λ (s : OnStep). drops (s .code)) (sym (after-is c r 0 w) ∙ on-reliable c r t 0 v e h y z) ∙ g)
+      where
+        at : (b : Bool) → drops (roomOn b (after c r 0 w) c .code) ≡ false → roomOn b (after c r 0 w) c .code ≡ 0
+        at true x = refl
+        at false x = never x
+
+    pub left-reliable : (f : ℕ) (d : OnChannel) → r .reliable ≡ 1 → (r .haslast ≡ 1 → ⊥) → d ≡ stepOn (reliableIn (isSet f) r (onAcked r (absOn c))) c .channel → d ≡ stepOn (onRecord (isSet f) t r (absOn c)) c .channel
+    left-reliable f d y z q = q ∙ ap (λ (s : OnStep). s .channel) (on-reliable c r t f v e h y z)
+
+    module _ (n : r .reliable ≡ 1 → ⊥) (b : Bool) (q : b ≡ (isSet (r .haslast) && not (eqb (r .lastreliable) (sub (c .expected) 1)))) where
+      pub code-eight : b ≡ true → 8 ≡ onCode t r c
+      code-eight y = ap (λ (s : OnStep). s .code) (on-eight c r t 0 v e h n b q y)
+
+      pub left-eight : (f : ℕ) (d : OnChannel) → b ≡ true → d ≡ reprOn (onAcked r (absOn c)) → d ≡ stepOn (onRecord (isSet f) t r (absOn c)) c .channel
+      left-eight f d y x = x ∙ ap (λ (s : OnStep). s .channel) (on-eight c r t f v e h n b q y)
+
+      loose-code-is : b ≡ false → WfOn c → added t (packet r) (c .groups) (c .bundles) .code ≡ onCode t r c
+      loose-code-is y w = loose-on-code c r t w ∙ ap (λ (s : OnStep). s .code) (on-loose c r t 0 v e h n b q y)
+
+      pub code-loose : (k : ℕ) → b ≡ false → WfOn c → k ≡ added t (packet r) (c .groups) (c .bundles) .code → k ≡ onCode t r c
+      code-loose k y w x = x ∙ loose-code-is y w
+
+      pub loose-granted : b ≡ false → WfOn c → drops (onCode t r c) ≡ false → added t (packet r) (c .groups) (c .bundles) .code ≡ 0
+      loose-granted y w g = added-zero t (c .groups) (c .bundles) (packet r) (ap drops (loose-code-is y w) ∙ g)
+
+      pub left-loose : (f : ℕ) (d : OnChannel) → b ≡ false → d ≡ stepOn (looseOn t r (onAcked r (absOn c))) c .channel → d ≡ stepOn (onRecord (isSet f) t r (absOn c)) c .channel
+      left-loose f d y x = x ∙ ap (λ (s : OnStep). s .channel) (on-loose c r t f v e h n b q y)
+
+-- ---- forwarding plays no part in the number
+
+module _ (c : OnChannel) (r : Record) (t : ℕ) (f : Bool) where
+  room-same : (b : Bool) (x y : model.OnChannel) → roomOn b x c .code ≡ roomOn b y c .code
+  room-same true x y = refl
+  room-same false x y = refl
+
+  run-same : (b : Bool) (x y : model.OnChannel) → fitsOn x ≡ fitsOn y → stepOn (runOf b x) c .code ≡ stepOn (runOf b y) c .code
+  run-same b x y e = ap (λ (s : OnStep). s .code) (run-step b x c) ∙ ap (λ (z : Bool). roomOn z x c .code) e ∙ room-same (fitsOn y) x y ∙ sym (ap (λ (s : OnStep). s .code) (run-step b y c))
+
+  reliable-same : (m : model.OnChannel) → stepOn (reliableIn false r m) c .code ≡ stepOn (reliableIn f r m) c .code
+  unfolding reliableIn
+  reliable-same m = run-same (panics (reorder (reliableOf m) (packet r) .queue)) _ _ refl
+
+  rules-same : (a b : Bool) (m : model.OnChannel) → stepOn (rulesOn a b false t r m) c .code ≡ stepOn (rulesOn a b f t r m) c .code
+  rules-same true true m = refl
+  rules-same true false m = reliable-same m
+  rules-same false true m = refl
+  rules-same false false m = refl
+
+  pub code-forwarded : onCode t r c ≡ stepOn (onRecord f t r (absOn c)) c .code
+  unfolding onRecord
+  code-forwarded = at (ltb (versionOf r) (c .version))
+    where
+      at : (b : Bool) → stepOn (current b false t r (absOn c)) c .code ≡ stepOn (current b f t r (absOn c)) c .code
+      at true = refl
+      at false = rules-same (isSet (r .reliable)) (isSet (r .haslast)) (onAcked r (absOn c))
+
+pub ruleset onward = (taken-in-done, reliable-full, reliable-over, reliable-zero, acks-room, reliable-taken, packet-zero, loose-on-taken, last-none, last-given, code-five, code-seven, code-reliable, code-eight, code-loose, reliable-granted, loose-granted, left-five, left-seven, left-reliable, left-eight, left-loose, needs)

@@ -1,11 +1,15 @@
-use mathlib.Core.Path.{_≡_}
 use Prim.Native.Nat.{ℕ, _-_, _≤_}
+use mathlib.Core.Path.{_≡_, sym, ap, _∙_}
+use mathlib.Core.Logic.{⊎-elim}
 use native.Mathlib.Omega.{arith}
 use lib.ListN.{length}
-use borrow.Author.Needs.{needs}
 use Rattle.lists.proofs.Pad.{length-of-map}
-use Rattle.receive.proofs.Turn.{Turning, turning-start, turning-end, turn-index, turn-counted, less-left, next-fits, record-fits, on-fits, off-fits}
-use Rattle.receive.proofs.Arms.{turn-missed, on-index, on-form, on-made, turn-on-dropped, turn-on-kept, off-index, off-form, off-made, turn-off-dropped, turn-off-kept}
+use Rattle.records.specs.Records.{drops}
+use Rattle.delivery.specs.declared.Aim.{Aim}
+use Rattle.delivery.specs.Delivery.{changed, answered}
+use Rattle.table.specs.Table.{timeSet}
+use Rattle.receive.proofs.Turn.{Running, running-start, running-end, turning-of, below-of, running-again, turn-index, turn-counted, less-left, next-fits, record-fits, on-fits, off-fits}
+use Rattle.receive.proofs.Arms.{not-dropped, turn-missed, on-index, on-form, on-made, turn-on-dropped, turn-on-kept, off-index, off-form, off-made, turn-off-dropped, turn-off-kept}
 use Rattle.receive.proofs.deliver.Statement.{statement}
 use Rattle.receive.proofs.deliver.Tie as tie
 
@@ -13,338 +17,256 @@ up-to-eight : (n : ℕ) → n ≤ 4 → n ≤ 8
 up-to-eight n h = omega (arith, h)
 
 abbrev Inv-loop : tie.InvT-loop
-Inv-loop address b n u₀ keys₀ done₀ i₀ u keys done i = Turning u₀ address b u keys done i
+Inv-loop t start address b offs₀ ons₀ beside₀ done₀ i₀ i-end offs ons beside done i =
+    Running (timeSet (start .latest) t) address b (start .n) (start .done) (changed t (start .latest) beside offs ons) (beside .keys) done i
 
 abbrev μ-loop : tie.MeasureT-loop
-μ-loop address b n u₀ keys₀ done₀ i₀ u keys done i = n - i
-
-cast-n : tie.Need-cast-n Inv-loop μ-loop
-cast-n c = search needs
-
-keys-of-requires : tie.Need-keys-of-requires Inv-loop μ-loop
-keys-of-requires c κs = tt
-
-none-requires : tie.Need-none-requires Inv-loop μ-loop
-none-requires c κs = tt
+μ-loop t start address b offs₀ ons₀ beside₀ done₀ i₀ i-end offs ons beside done i = i-end - i
 
 loop-holds : tie.Need-loop-holds Inv-loop μ-loop
 loop-holds c =
-    let s = c .before .before in
-    let p : length (s .args .t3 .records) ≡ 8 = search length-of-map in
-    turning-start (s .args .t) (s .args .address) (s .args .t3) _ _ (s .pre .0) (s .pre .1) p (c .before .keys-of .ensures) (c .none .ensures)
+    let s = c .before .before .before in
+    let good = s .good .1 .1 .1 .1 in
+    let p : length (s .args .t5 .records) ≡ 8 = search (length-of-map, good) in
+    running-start (s .args .start) (s .args .first) (s .args .t) (s .args .address) (s .args .t5) (s .pre) p
 
 mul-r : tie.Need-mul-r Inv-loop μ-loop
 mul-r c =
-    let l = c .before .loop in
-    let g = c .before .before .before .before .args in
-    let h = c .loop-test .taken in
-    record-fits (l .i) (turn-index (g .t) (g .address) (g .t3) (l .u) (l .keys) (l .done) (l .i) (l .inv) h)
+    let x = c in
+    let w = turning-of _ _ _ _ _ _ _ _ _ (x .before .loop .inv) (x .loop-test .taken) in
+    let h = below-of _ _ _ _ _ _ _ _ _ (x .before .loop .inv) (x .loop-test .taken) in
+    record-fits _ (turn-index _ _ _ _ _ _ _ w h)
 
 element-copy-out-r : tie.Need-element-copy-out-r Inv-loop μ-loop
 element-copy-out-r c =
-    let l = c .before .loop in
-    let g = c .before .before .before .before .args in
-    let h = c .loop-test .taken in
-    turn-index (g .t) (g .address) (g .t3) (l .u) (l .keys) (l .done) (l .i) (l .inv) h
+    let x = c in
+    let w = turning-of _ _ _ _ _ _ _ _ _ (x .before .loop .inv) (x .loop-test .taken) in
+    let h = below-of _ _ _ _ _ _ _ _ _ (x .before .loop .inv) (x .loop-test .taken) in
+    turn-index _ _ _ _ _ _ _ w h
 
 aimed-requires : tie.Need-aimed-requires Inv-loop μ-loop
-aimed-requires c κs = (c .before .before .loop .inv .offs, c .before .before .loop .inv .ons)
+aimed-requires c κs =
+    let x = c .before in
+    let w = turning-of _ _ _ _ _ _ _ _ _ (x .before .loop .inv) (x .loop-test .taken) in
+    let h = below-of _ _ _ _ _ _ _ _ _ (x .before .loop .inv) (x .loop-test .taken) in
+    (w .offs, w .ons)
 
-no-view-requires : tie.Need-no-view-requires Inv-loop μ-loop
-no-view-requires c κs = tt
+mul-opened-on : tie.Need-mul-opened-on Inv-loop μ-loop
+mul-opened-on c =
+    let x = c .before .before .before .before .before .before in
+    let w = turning-of _ _ _ _ _ _ _ _ _ (x .before .loop .inv) (x .loop-test .taken) in
+    let h = below-of _ _ _ _ _ _ _ _ _ (x .before .loop .inv) (x .loop-test .taken) in
+    on-fits _ (on-index _ _ _ _ _ _ _ _ w h _ (c .before .before .before .before .aimed .ensures) (c .before .before .if1 .taken) (c .if2 .taken))
 
-then-requires : tie.Need-then-requires Inv-loop μ-loop
-then-requires c κs =
-    let l = c .before .before .before .before .before .before .loop in
-    let g = c .before .before .before .before .before .before .before .before .before .args in
-    let h = c .before .before .before .before .before .loop-test .taken in
-    turn-counted (g .t) (g .address) (g .t3) (l .u) (l .keys) (l .done) (l .i) (l .inv) h
+array-copy-out-opened-on : tie.Need-array-copy-out-opened-on Inv-loop μ-loop
+array-copy-out-opened-on c =
+    let x = c .before .before .before .before .before .before in
+    let w = turning-of _ _ _ _ _ _ _ _ _ (x .before .loop .inv) (x .loop-test .taken) in
+    let h = below-of _ _ _ _ _ _ _ _ _ (x .before .loop .inv) (x .loop-test .taken) in
+    on-index _ _ _ _ _ _ _ _ w h _ (c .before .before .before .before .aimed .ensures) (c .before .before .if1 .taken) (c .if2 .taken)
 
-add-i : tie.Need-add-i Inv-loop μ-loop
-add-i c =
-    let l = c .before .before .before .before .before .before .before .loop in
-    let g = c .before .before .before .before .before .before .before .before .before .before .args in
-    let h = c .before .before .before .before .before .before .loop-test .taken in
-    next-fits (l .i) (turn-index (g .t) (g .address) (g .t3) (l .u) (l .keys) (l .done) (l .i) (l .inv) h)
+opened-on-requires : tie.Need-opened-on-requires Inv-loop μ-loop
+opened-on-requires c κs = tt
 
-loop-less : tie.Need-loop-less Inv-loop μ-loop
-loop-less c =
-    let l = c .before .before .before .before .before .before .before .loop in
-    let g = c .before .before .before .before .before .before .before .before .before .before .args in
-    let h = c .before .before .before .before .before .before .loop-test .taken in
-    less-left (g .t3 .count) (l .i) h
-
-loop-again : tie.Need-loop-again Inv-loop μ-loop
-loop-again c =
-    let l = c .before .before .before .before .before .before .before .loop in
-    let g = c .before .before .before .before .before .before .before .before .before .before .args in
-    let h = c .before .before .before .before .before .before .loop-test .taken in
-    turn-missed (g .t) (g .address) (g .t3) (l .u) (l .keys) (l .done) (l .i) _ (l .inv) h _ _ _ (c .before .before .before .before .aimed .ensures) (c .before .before .if1 .taken) (c .before .no-view .ensures) (c .then .ensures)
-
-mul-e : tie.Need-mul-e Inv-loop μ-loop
-mul-e c =
-    let x = c .before .before in
-    let l = x .before .before .before .before .before .loop in
-    let g = x .before .before .before .before .before .before .before .before .args in
-    let h = x .before .before .before .before .loop-test .taken in
-    on-fits _ (on-index (g .t) (g .address) (g .t3) (l .u) (l .keys) (l .done) (l .i) _ (l .inv) h _ (x .before .before .aimed .ensures) (x .if1 .left) (c .if2 .taken))
-
-element-copy-out-e : tie.Need-element-copy-out-e Inv-loop μ-loop
-element-copy-out-e c =
-    let x = c .before .before in
-    let l = x .before .before .before .before .before .loop in
-    let g = x .before .before .before .before .before .before .before .before .args in
-    let h = x .before .before .before .before .loop-test .taken in
-    on-index (g .t) (g .address) (g .t3) (l .u) (l .keys) (l .done) (l .i) _ (l .inv) h _ (x .before .before .aimed .ensures) (x .if1 .left) (c .if2 .taken)
-
-on-step-requires : tie.Need-on-step-requires Inv-loop μ-loop
-on-step-requires c κs =
-    let y = c .before in
-    let x = y .before .before in
-    let l = x .before .before .before .before .before .loop in
-    let g = x .before .before .before .before .before .before .before .before .args in
-    let h = x .before .before .before .before .loop-test .taken in
-    (on-form (g .t) (g .address) (g .t3) (l .u) (l .keys) (l .done) (l .i) _ (l .inv) h _ (x .before .before .aimed .ensures) (x .if1 .left) (y .if2 .taken) _, on-made (g .t) (g .address) (g .t3) (l .u) (l .keys) (l .done) (l .i) _ (l .inv) h _ (x .before .before .aimed .ensures) (x .if1 .left) (y .if2 .taken))
-
-on-view-requires : tie.Need-on-view-requires Inv-loop μ-loop
-on-view-requires c κs = tt
-
-then-requires-2 : tie.Need-then-requires-2 Inv-loop μ-loop
-then-requires-2 c κs =
-    let y = c .before .before .before .before in
-    let x = y .before .before in
-    let l = x .before .before .before .before .before .loop in
-    let g = x .before .before .before .before .before .before .before .before .args in
-    let h = x .before .before .before .before .loop-test .taken in
-    turn-counted (g .t) (g .address) (g .t3) (l .u) (l .keys) (l .done) (l .i) (l .inv) h
+on-code-requires : tie.Need-on-code-requires Inv-loop μ-loop
+on-code-requires c κs =
+    let x = c .before .before .before .before .before .before .before .before in
+    let w = turning-of _ _ _ _ _ _ _ _ _ (x .before .loop .inv) (x .loop-test .taken) in
+    let h = below-of _ _ _ _ _ _ _ _ _ (x .before .loop .inv) (x .loop-test .taken) in
+    on-form _ _ _ _ _ _ _ _ w h _ (c .before .before .before .before .before .before .aimed .ensures) (c .before .before .before .before .if1 .taken) (c .before .before .if2 .taken) _ _ (c .opened-on .ensures)
 
 drops-requires : tie.Need-drops-requires Inv-loop μ-loop
 drops-requires c κs = tt
 
-add-i-2 : tie.Need-add-i-2 Inv-loop μ-loop
-add-i-2 c =
-    let y = c .before .before .before .before .before .before .before in
-    let x = y .before .before in
-    let l = x .before .before .before .before .before .loop in
-    let g = x .before .before .before .before .before .before .before .before .args in
-    let h = x .before .before .before .before .loop-test .taken in
-    next-fits (l .i) (turn-index (g .t) (g .address) (g .t3) (l .u) (l .keys) (l .done) (l .i) (l .inv) h)
+on-taken-requires : tie.Need-on-taken-requires Inv-loop μ-loop
+on-taken-requires c κs =
+    let x = c .before .before .before .before .before .before .before .before .before .before .before in
+    let w = turning-of _ _ _ _ _ _ _ _ _ (x .before .loop .inv) (x .loop-test .taken) in
+    let h = below-of _ _ _ _ _ _ _ _ _ (x .before .loop .inv) (x .loop-test .taken) in
+    (on-form _ _ _ _ _ _ _ _ w h _ (c .before .before .before .before .before .before .before .before .before .aimed .ensures) (c .before .before .before .before .before .before .before .if1 .taken) (c .before .before .before .before .before .if2 .taken) _ _ (c .before .before .before .opened-on .ensures), (on-made _ _ _ _ _ _ _ _ w h _ (c .before .before .before .before .before .before .before .before .before .aimed .ensures) (c .before .before .before .before .before .before .before .if1 .taken) (c .before .before .before .before .before .if2 .taken), not-dropped _ _ _ (c .before .before .on-code .ensures) (c .before .drops .ensures) (c .if3 .taken)))
 
-loop-less-2 : tie.Need-loop-less-2 Inv-loop μ-loop
-loop-less-2 c =
-    let y = c .before .before .before .before .before .before .before in
-    let x = y .before .before in
-    let l = x .before .before .before .before .before .loop in
-    let g = x .before .before .before .before .before .before .before .before .args in
-    let h = x .before .before .before .before .loop-test .taken in
-    less-left (g .t3 .count) (l .i) h
+on-view-requires : tie.Need-on-view-requires Inv-loop μ-loop
+on-view-requires c κs = tt
 
-loop-again-2 : tie.Need-loop-again-2 Inv-loop μ-loop
-loop-again-2 c =
-    let y = c .before .before .before .before .before .before .before in
-    let x = y .before .before in
-    let l = x .before .before .before .before .before .loop in
-    let g = x .before .before .before .before .before .before .before .before .args in
-    let h = x .before .before .before .before .loop-test .taken in
-    turn-on-dropped (g .t) (g .address) (g .t3) (l .u) (l .keys) (l .done) (l .i) _ (l .inv) h _ (x .before .before .aimed .ensures) (x .if1 .left) (y .if2 .taken) _ _ _ _ _ (c .before .before .before .before .before .on-step .ensures) (c .before .before .before .on-view .ensures) (c .before .before .then2 .ensures) (c .before .drops .ensures) (c .if3 .taken)
+then-requires : tie.Need-then-requires Inv-loop μ-loop
+then-requires c κs =
+    let x = c .before .before .before .before .before .before .before .before .before .before .before .before .before in
+    let w = turning-of _ _ _ _ _ _ _ _ _ (x .before .loop .inv) (x .loop-test .taken) in
+    let h = below-of _ _ _ _ _ _ _ _ _ (x .before .loop .inv) (x .loop-test .taken) in
+    turn-counted _ _ _ _ _ _ _ w h
 
-mul-c : tie.Need-mul-c Inv-loop μ-loop
-mul-c c =
-    let y = c .before .before .before .before .before .before .before in
-    let x = y .before .before in
-    let l = x .before .before .before .before .before .loop in
-    let g = x .before .before .before .before .before .before .before .before .args in
-    let h = x .before .before .before .before .loop-test .taken in
-    on-fits _ (on-index (g .t) (g .address) (g .t3) (l .u) (l .keys) (l .done) (l .i) _ (l .inv) h _ (x .before .before .aimed .ensures) (x .if1 .left) (y .if2 .taken))
+mul-ons : tie.Need-mul-ons Inv-loop μ-loop
+mul-ons c =
+    let x = c .before .before .before .before .before .before .before .before .before .before .before .before .before .before in
+    let w = turning-of _ _ _ _ _ _ _ _ _ (x .before .loop .inv) (x .loop-test .taken) in
+    let h = below-of _ _ _ _ _ _ _ _ _ (x .before .loop .inv) (x .loop-test .taken) in
+    on-fits _ (on-index _ _ _ _ _ _ _ _ w h _ (c .before .before .before .before .before .before .before .before .before .before .before .before .aimed .ensures) (c .before .before .before .before .before .before .before .before .before .before .if1 .taken) (c .before .before .before .before .before .before .before .before .if2 .taken))
 
-element-set-from-c : tie.Need-element-set-from-c Inv-loop μ-loop
-element-set-from-c c =
-    let y = c .before .before .before .before .before .before .before in
-    let x = y .before .before in
-    let l = x .before .before .before .before .before .loop in
-    let g = x .before .before .before .before .before .before .before .before .args in
-    let h = x .before .before .before .before .loop-test .taken in
-    on-index (g .t) (g .address) (g .t3) (l .u) (l .keys) (l .done) (l .i) _ (l .inv) h _ (x .before .before .aimed .ensures) (x .if1 .left) (y .if2 .taken)
+array-set-from-ons : tie.Need-array-set-from-ons Inv-loop μ-loop
+array-set-from-ons c =
+    let x = c .before .before .before .before .before .before .before .before .before .before .before .before .before .before in
+    let w = turning-of _ _ _ _ _ _ _ _ _ (x .before .loop .inv) (x .loop-test .taken) in
+    let h = below-of _ _ _ _ _ _ _ _ _ (x .before .loop .inv) (x .loop-test .taken) in
+    on-index _ _ _ _ _ _ _ _ w h _ (c .before .before .before .before .before .before .before .before .before .before .before .before .aimed .ensures) (c .before .before .before .before .before .before .before .before .before .before .if1 .taken) (c .before .before .before .before .before .before .before .before .if2 .taken)
 
-in-use-requires : tie.Need-in-use-requires Inv-loop μ-loop
-in-use-requires c κs =
-    let y = c .before .before .before .before .before .before .before in
-    let x = y .before .before in
-    let l = x .before .before .before .before .before .loop in
-    l .inv .ons
+with-on-requires : tie.Need-with-on-requires Inv-loop μ-loop
+with-on-requires c κs =
+    let x = c .before .before .before .before .before .before .before .before .before .before .before .before .before .before in
+    let w = turning-of _ _ _ _ _ _ _ _ _ (x .before .loop .inv) (x .loop-test .taken) in
+    let h = below-of _ _ _ _ _ _ _ _ _ (x .before .loop .inv) (x .loop-test .taken) in
+    (on-index _ _ _ _ _ _ _ _ w h _ (c .before .before .before .before .before .before .before .before .before .before .before .before .aimed .ensures) (c .before .before .before .before .before .before .before .before .before .before .if1 .taken) (c .before .before .before .before .before .before .before .before .if2 .taken), w .ons)
 
-with-on-key-requires : tie.Need-with-on-key-requires Inv-loop μ-loop
-with-on-key-requires c κs =
-    let y = c .before .before .before .before .before .before .before .before in
-    let x = y .before .before in
-    let l = x .before .before .before .before .before .loop in
-    let g = x .before .before .before .before .before .before .before .before .args in
-    let h = x .before .before .before .before .loop-test .taken in
-    on-index (g .t) (g .address) (g .t3) (l .u) (l .keys) (l .done) (l .i) _ (l .inv) h _ (x .before .before .aimed .ensures) (x .if1 .left) (y .if2 .taken)
+add-i : tie.Need-add-i Inv-loop μ-loop
+add-i c =
+    let x = c .before .before .before .before .before .before .before .before .before .before .before .before .before .before .before in
+    let w = turning-of _ _ _ _ _ _ _ _ _ (x .before .loop .inv) (x .loop-test .taken) in
+    let h = below-of _ _ _ _ _ _ _ _ _ (x .before .loop .inv) (x .loop-test .taken) in
+    next-fits _ (turn-index _ _ _ _ _ _ _ w h)
 
-add-i-3 : tie.Need-add-i-3 Inv-loop μ-loop
-add-i-3 c =
-    let y = c .before .before .before .before .before .before .before .before .before in
-    let x = y .before .before in
-    let l = x .before .before .before .before .before .loop in
-    let g = x .before .before .before .before .before .before .before .before .args in
-    let h = x .before .before .before .before .loop-test .taken in
-    next-fits (l .i) (turn-index (g .t) (g .address) (g .t3) (l .u) (l .keys) (l .done) (l .i) (l .inv) h)
+loop-less : tie.Need-loop-less Inv-loop μ-loop
+loop-less c =
+    let x = c .before .before .before .before .before .before .before .before .before .before .before .before .before .before .before in
+    less-left _ _ (x .loop-test .taken)
 
-loop-less-3 : tie.Need-loop-less-3 Inv-loop μ-loop
-loop-less-3 c =
-    let y = c .before .before .before .before .before .before .before .before .before in
-    let x = y .before .before in
-    let l = x .before .before .before .before .before .loop in
-    let g = x .before .before .before .before .before .before .before .before .args in
-    let h = x .before .before .before .before .loop-test .taken in
-    less-left (g .t3 .count) (l .i) h
+loop-again : tie.Need-loop-again Inv-loop μ-loop
+loop-again c =
+    let x = c .before .before .before .before .before .before .before .before .before .before .before .before .before .before .before in
+    let w = turning-of _ _ _ _ _ _ _ _ _ (x .before .loop .inv) (x .loop-test .taken) in
+    let h = below-of _ _ _ _ _ _ _ _ _ (x .before .loop .inv) (x .loop-test .taken) in
+    running-again _ _ _ _ _ _ _ _ _ (x .before .loop .inv) (x .loop-test .taken) _ _ _
+    (turn-on-kept _ _ _ _ _ _ _ _ w h _ (c .before .before .before .before .before .before .before .before .before .before .before .before .before .aimed .ensures) (c .before .before .before .before .before .before .before .before .before .before .before .if1 .taken) (c .before .before .before .before .before .before .before .before .before .if2 .taken) _ _ (c .before .before .before .before .before .before .before .opened-on .ensures) _ (c .before .before .before .before .before .before .on-code .ensures) _ _ _ _ _ (c .before .before .before .before .before .drops .ensures) (c .before .before .before .before .if3 .taken) (c .before .before .before .on-taken .ensures) (c .before .before .on-view .ensures) (c .before .then .ensures) (c .with-on .ensures))
 
-loop-again-3 : tie.Need-loop-again-3 Inv-loop μ-loop
-loop-again-3 c =
-    let y = c .before .before .before .before .before .before .before .before .before in
-    let x = y .before .before in
-    let l = x .before .before .before .before .before .loop in
-    let g = x .before .before .before .before .before .before .before .before .args in
-    let h = x .before .before .before .before .loop-test .taken in
-    turn-on-kept (g .t) (g .address) (g .t3) (l .u) (l .keys) (l .done) (l .i) _ (l .inv) h _ (x .before .before .aimed .ensures) (x .if1 .left) (y .if2 .taken) _ _ _ _ _ (c .before .before .before .before .before .before .before .on-step .ensures) (c .before .before .before .before .before .on-view .ensures) (c .before .before .before .before .then2 .ensures) (c .before .before .before .drops .ensures) _ _ (c .before .before .if3 .left) (c .before .in-use .ensures) (c .with-on-key .ensures)
+mul-opened-off : tie.Need-mul-opened-off Inv-loop μ-loop
+mul-opened-off c =
+    let x = c .before .before .before .before .before .before in
+    let w = turning-of _ _ _ _ _ _ _ _ _ (x .before .loop .inv) (x .loop-test .taken) in
+    let h = below-of _ _ _ _ _ _ _ _ _ (x .before .loop .inv) (x .loop-test .taken) in
+    off-fits _ (off-index _ _ _ _ _ _ _ _ w h _ (c .before .before .before .before .aimed .ensures) (c .before .before .if1 .taken) (c .if2 .left))
 
-mul-e-2 : tie.Need-mul-e-2 Inv-loop μ-loop
-mul-e-2 c =
-    let x = c .before .before in
-    let l = x .before .before .before .before .before .loop in
-    let g = x .before .before .before .before .before .before .before .before .args in
-    let h = x .before .before .before .before .loop-test .taken in
-    off-fits _ (off-index (g .t) (g .address) (g .t3) (l .u) (l .keys) (l .done) (l .i) _ (l .inv) h _ (x .before .before .aimed .ensures) (x .if1 .left) (c .if2 .left))
+array-copy-out-opened-off : tie.Need-array-copy-out-opened-off Inv-loop μ-loop
+array-copy-out-opened-off c =
+    let x = c .before .before .before .before .before .before in
+    let w = turning-of _ _ _ _ _ _ _ _ _ (x .before .loop .inv) (x .loop-test .taken) in
+    let h = below-of _ _ _ _ _ _ _ _ _ (x .before .loop .inv) (x .loop-test .taken) in
+    off-index _ _ _ _ _ _ _ _ w h _ (c .before .before .before .before .aimed .ensures) (c .before .before .if1 .taken) (c .if2 .left)
 
-element-copy-out-e-2 : tie.Need-element-copy-out-e-2 Inv-loop μ-loop
-element-copy-out-e-2 c =
-    let x = c .before .before in
-    let l = x .before .before .before .before .before .loop in
-    let g = x .before .before .before .before .before .before .before .before .args in
-    let h = x .before .before .before .before .loop-test .taken in
-    off-index (g .t) (g .address) (g .t3) (l .u) (l .keys) (l .done) (l .i) _ (l .inv) h _ (x .before .before .aimed .ensures) (x .if1 .left) (c .if2 .left)
+opened-off-requires : tie.Need-opened-off-requires Inv-loop μ-loop
+opened-off-requires c κs = tt
 
-off-step-requires : tie.Need-off-step-requires Inv-loop μ-loop
-off-step-requires c κs =
-    let y = c .before in
-    let x = y .before .before in
-    let l = x .before .before .before .before .before .loop in
-    let g = x .before .before .before .before .before .before .before .before .args in
-    let h = x .before .before .before .before .loop-test .taken in
-    (off-form (g .t) (g .address) (g .t3) (l .u) (l .keys) (l .done) (l .i) _ (l .inv) h _ (x .before .before .aimed .ensures) (x .if1 .left) (y .if2 .left) _, off-made (g .t) (g .address) (g .t3) (l .u) (l .keys) (l .done) (l .i) _ (l .inv) h _ (x .before .before .aimed .ensures) (x .if1 .left) (y .if2 .left))
-
-off-view-requires : tie.Need-off-view-requires Inv-loop μ-loop
-off-view-requires c κs = tt
-
-then-requires-3 : tie.Need-then-requires-3 Inv-loop μ-loop
-then-requires-3 c κs =
-    let y = c .before .before .before .before in
-    let x = y .before .before in
-    let l = x .before .before .before .before .before .loop in
-    let g = x .before .before .before .before .before .before .before .before .args in
-    let h = x .before .before .before .before .loop-test .taken in
-    turn-counted (g .t) (g .address) (g .t3) (l .u) (l .keys) (l .done) (l .i) (l .inv) h
+off-code-requires : tie.Need-off-code-requires Inv-loop μ-loop
+off-code-requires c κs =
+    let x = c .before .before .before .before .before .before .before .before in
+    let w = turning-of _ _ _ _ _ _ _ _ _ (x .before .loop .inv) (x .loop-test .taken) in
+    let h = below-of _ _ _ _ _ _ _ _ _ (x .before .loop .inv) (x .loop-test .taken) in
+    off-form _ _ _ _ _ _ _ _ w h _ (c .before .before .before .before .before .before .aimed .ensures) (c .before .before .before .before .if1 .taken) (c .before .before .if2 .left) _ _ (c .opened-off .ensures)
 
 drops-requires-2 : tie.Need-drops-requires-2 Inv-loop μ-loop
 drops-requires-2 c κs = tt
 
-add-i-4 : tie.Need-add-i-4 Inv-loop μ-loop
-add-i-4 c =
-    let y = c .before .before .before .before .before .before .before in
-    let x = y .before .before in
-    let l = x .before .before .before .before .before .loop in
-    let g = x .before .before .before .before .before .before .before .before .args in
-    let h = x .before .before .before .before .loop-test .taken in
-    next-fits (l .i) (turn-index (g .t) (g .address) (g .t3) (l .u) (l .keys) (l .done) (l .i) (l .inv) h)
+off-taken-requires : tie.Need-off-taken-requires Inv-loop μ-loop
+off-taken-requires c κs =
+    let x = c .before .before .before .before .before .before .before .before .before .before .before in
+    let w = turning-of _ _ _ _ _ _ _ _ _ (x .before .loop .inv) (x .loop-test .taken) in
+    let h = below-of _ _ _ _ _ _ _ _ _ (x .before .loop .inv) (x .loop-test .taken) in
+    (off-form _ _ _ _ _ _ _ _ w h _ (c .before .before .before .before .before .before .before .before .before .aimed .ensures) (c .before .before .before .before .before .before .before .if1 .taken) (c .before .before .before .before .before .if2 .left) _ _ (c .before .before .before .opened-off .ensures), (off-made _ _ _ _ _ _ _ _ w h _ (c .before .before .before .before .before .before .before .before .before .aimed .ensures) (c .before .before .before .before .before .before .before .if1 .taken) (c .before .before .before .before .before .if2 .left), not-dropped _ _ _ (c .before .before .off-code .ensures) (c .before .drops2 .ensures) (c .if4 .taken)))
 
-loop-less-4 : tie.Need-loop-less-4 Inv-loop μ-loop
-loop-less-4 c =
-    let y = c .before .before .before .before .before .before .before in
-    let x = y .before .before in
-    let l = x .before .before .before .before .before .loop in
-    let g = x .before .before .before .before .before .before .before .before .args in
-    let h = x .before .before .before .before .loop-test .taken in
-    less-left (g .t3 .count) (l .i) h
+off-view-requires : tie.Need-off-view-requires Inv-loop μ-loop
+off-view-requires c κs = tt
 
-loop-again-4 : tie.Need-loop-again-4 Inv-loop μ-loop
-loop-again-4 c =
-    let y = c .before .before .before .before .before .before .before in
-    let x = y .before .before in
-    let l = x .before .before .before .before .before .loop in
-    let g = x .before .before .before .before .before .before .before .before .args in
-    let h = x .before .before .before .before .loop-test .taken in
-    turn-off-dropped (g .t) (g .address) (g .t3) (l .u) (l .keys) (l .done) (l .i) _ (l .inv) h _ (x .before .before .aimed .ensures) (x .if1 .left) (y .if2 .left) _ _ _ _ _ (c .before .before .before .before .before .off-step .ensures) (c .before .before .before .off-view .ensures) (c .before .before .then3 .ensures) (c .before .drops2 .ensures) (c .if4 .taken)
+then-requires-2 : tie.Need-then-requires-2 Inv-loop μ-loop
+then-requires-2 c κs =
+    let x = c .before .before .before .before .before .before .before .before .before .before .before .before .before in
+    let w = turning-of _ _ _ _ _ _ _ _ _ (x .before .loop .inv) (x .loop-test .taken) in
+    let h = below-of _ _ _ _ _ _ _ _ _ (x .before .loop .inv) (x .loop-test .taken) in
+    turn-counted _ _ _ _ _ _ _ w h
 
-mul-c-2 : tie.Need-mul-c-2 Inv-loop μ-loop
-mul-c-2 c =
-    let y = c .before .before .before .before .before .before .before in
-    let x = y .before .before in
-    let l = x .before .before .before .before .before .loop in
-    let g = x .before .before .before .before .before .before .before .before .args in
-    let h = x .before .before .before .before .loop-test .taken in
-    off-fits _ (off-index (g .t) (g .address) (g .t3) (l .u) (l .keys) (l .done) (l .i) _ (l .inv) h _ (x .before .before .aimed .ensures) (x .if1 .left) (y .if2 .left))
+mul-offs : tie.Need-mul-offs Inv-loop μ-loop
+mul-offs c =
+    let x = c .before .before .before .before .before .before .before .before .before .before .before .before .before .before in
+    let w = turning-of _ _ _ _ _ _ _ _ _ (x .before .loop .inv) (x .loop-test .taken) in
+    let h = below-of _ _ _ _ _ _ _ _ _ (x .before .loop .inv) (x .loop-test .taken) in
+    off-fits _ (off-index _ _ _ _ _ _ _ _ w h _ (c .before .before .before .before .before .before .before .before .before .before .before .before .aimed .ensures) (c .before .before .before .before .before .before .before .before .before .before .if1 .taken) (c .before .before .before .before .before .before .before .before .if2 .left))
 
-element-set-from-c-2 : tie.Need-element-set-from-c-2 Inv-loop μ-loop
-element-set-from-c-2 c =
-    let y = c .before .before .before .before .before .before .before in
-    let x = y .before .before in
-    let l = x .before .before .before .before .before .loop in
-    let g = x .before .before .before .before .before .before .before .before .args in
-    let h = x .before .before .before .before .loop-test .taken in
-    off-index (g .t) (g .address) (g .t3) (l .u) (l .keys) (l .done) (l .i) _ (l .inv) h _ (x .before .before .aimed .ensures) (x .if1 .left) (y .if2 .left)
+array-set-from-offs : tie.Need-array-set-from-offs Inv-loop μ-loop
+array-set-from-offs c =
+    let x = c .before .before .before .before .before .before .before .before .before .before .before .before .before .before in
+    let w = turning-of _ _ _ _ _ _ _ _ _ (x .before .loop .inv) (x .loop-test .taken) in
+    let h = below-of _ _ _ _ _ _ _ _ _ (x .before .loop .inv) (x .loop-test .taken) in
+    off-index _ _ _ _ _ _ _ _ w h _ (c .before .before .before .before .before .before .before .before .before .before .before .before .aimed .ensures) (c .before .before .before .before .before .before .before .before .before .before .if1 .taken) (c .before .before .before .before .before .before .before .before .if2 .left)
 
-in-use-requires-2 : tie.Need-in-use-requires-2 Inv-loop μ-loop
-in-use-requires-2 c κs =
-    let y = c .before .before .before .before .before .before .before in
-    let x = y .before .before in
-    let l = x .before .before .before .before .before .loop in
-    up-to-eight _ (l .inv .offs)
+with-off-requires : tie.Need-with-off-requires Inv-loop μ-loop
+with-off-requires c κs =
+    let x = c .before .before .before .before .before .before .before .before .before .before .before .before .before .before in
+    let w = turning-of _ _ _ _ _ _ _ _ _ (x .before .loop .inv) (x .loop-test .taken) in
+    let h = below-of _ _ _ _ _ _ _ _ _ (x .before .loop .inv) (x .loop-test .taken) in
+    (off-index _ _ _ _ _ _ _ _ w h _ (c .before .before .before .before .before .before .before .before .before .before .before .before .aimed .ensures) (c .before .before .before .before .before .before .before .before .before .before .if1 .taken) (c .before .before .before .before .before .before .before .before .if2 .left), up-to-eight _ (w .offs))
 
-with-off-key-requires : tie.Need-with-off-key-requires Inv-loop μ-loop
-with-off-key-requires c κs =
-    let y = c .before .before .before .before .before .before .before .before in
-    let x = y .before .before in
-    let l = x .before .before .before .before .before .loop in
-    let g = x .before .before .before .before .before .before .before .before .args in
-    let h = x .before .before .before .before .loop-test .taken in
-    off-index (g .t) (g .address) (g .t3) (l .u) (l .keys) (l .done) (l .i) _ (l .inv) h _ (x .before .before .aimed .ensures) (x .if1 .left) (y .if2 .left)
+add-i-2 : tie.Need-add-i-2 Inv-loop μ-loop
+add-i-2 c =
+    let x = c .before .before .before .before .before .before .before .before .before .before .before .before .before .before .before in
+    let w = turning-of _ _ _ _ _ _ _ _ _ (x .before .loop .inv) (x .loop-test .taken) in
+    let h = below-of _ _ _ _ _ _ _ _ _ (x .before .loop .inv) (x .loop-test .taken) in
+    next-fits _ (turn-index _ _ _ _ _ _ _ w h)
 
-add-i-5 : tie.Need-add-i-5 Inv-loop μ-loop
-add-i-5 c =
-    let y = c .before .before .before .before .before .before .before .before .before in
-    let x = y .before .before in
-    let l = x .before .before .before .before .before .loop in
-    let g = x .before .before .before .before .before .before .before .before .args in
-    let h = x .before .before .before .before .loop-test .taken in
-    next-fits (l .i) (turn-index (g .t) (g .address) (g .t3) (l .u) (l .keys) (l .done) (l .i) (l .inv) h)
+loop-less-2 : tie.Need-loop-less-2 Inv-loop μ-loop
+loop-less-2 c =
+    let x = c .before .before .before .before .before .before .before .before .before .before .before .before .before .before .before in
+    less-left _ _ (x .loop-test .taken)
 
-loop-less-5 : tie.Need-loop-less-5 Inv-loop μ-loop
-loop-less-5 c =
-    let y = c .before .before .before .before .before .before .before .before .before in
-    let x = y .before .before in
-    let l = x .before .before .before .before .before .loop in
-    let g = x .before .before .before .before .before .before .before .before .args in
-    let h = x .before .before .before .before .loop-test .taken in
-    less-left (g .t3 .count) (l .i) h
+loop-again-2 : tie.Need-loop-again-2 Inv-loop μ-loop
+loop-again-2 c =
+    let x = c .before .before .before .before .before .before .before .before .before .before .before .before .before .before .before in
+    let w = turning-of _ _ _ _ _ _ _ _ _ (x .before .loop .inv) (x .loop-test .taken) in
+    let h = below-of _ _ _ _ _ _ _ _ _ (x .before .loop .inv) (x .loop-test .taken) in
+    running-again _ _ _ _ _ _ _ _ _ (x .before .loop .inv) (x .loop-test .taken) _ _ _
+    (turn-off-kept _ _ _ _ _ _ _ _ w h _ (c .before .before .before .before .before .before .before .before .before .before .before .before .before .aimed .ensures) (c .before .before .before .before .before .before .before .before .before .before .before .if1 .taken) (c .before .before .before .before .before .before .before .before .before .if2 .left) _ _ (c .before .before .before .before .before .before .before .opened-off .ensures) _ (c .before .before .before .before .before .before .off-code .ensures) _ _ _ _ _ (c .before .before .before .before .before .drops2 .ensures) (c .before .before .before .before .if4 .taken) (c .before .before .before .off-taken .ensures) (c .before .before .off-view .ensures) (c .before .then2 .ensures) (c .with-off .ensures))
 
-loop-again-5 : tie.Need-loop-again-5 Inv-loop μ-loop
-loop-again-5 c =
-    let y = c .before .before .before .before .before .before .before .before .before in
-    let x = y .before .before in
-    let l = x .before .before .before .before .before .loop in
-    let g = x .before .before .before .before .before .before .before .before .args in
-    let h = x .before .before .before .before .loop-test .taken in
-    turn-off-kept (g .t) (g .address) (g .t3) (l .u) (l .keys) (l .done) (l .i) _ (l .inv) h _ (x .before .before .aimed .ensures) (x .if1 .left) (y .if2 .left) _ _ _ _ _ (c .before .before .before .before .before .before .before .off-step .ensures) (c .before .before .before .before .before .off-view .ensures) (c .before .before .before .before .then3 .ensures) (c .before .before .before .drops2 .ensures) _ _ (c .before .before .if4 .left) (c .before .in-use2 .ensures) (c .with-off-key .ensures)
+none-requires : tie.Need-none-requires Inv-loop μ-loop
+none-requires c κs = tt
+
+then-requires-3 : tie.Need-then-requires-3 Inv-loop μ-loop
+then-requires-3 c κs =
+    let x = c .before .before .before .before .before in
+    let w = turning-of _ _ _ _ _ _ _ _ _ (x .before .loop .inv) (x .loop-test .taken) in
+    let h = below-of _ _ _ _ _ _ _ _ _ (x .before .loop .inv) (x .loop-test .taken) in
+    turn-counted _ _ _ _ _ _ _ w h
+
+add-i-3 : tie.Need-add-i-3 Inv-loop μ-loop
+add-i-3 c =
+    let x = c .before .before .before .before .before .before in
+    let w = turning-of _ _ _ _ _ _ _ _ _ (x .before .loop .inv) (x .loop-test .taken) in
+    let h = below-of _ _ _ _ _ _ _ _ _ (x .before .loop .inv) (x .loop-test .taken) in
+    next-fits _ (turn-index _ _ _ _ _ _ _ w h)
+
+loop-less-3 : tie.Need-loop-less-3 Inv-loop μ-loop
+loop-less-3 c =
+    let x = c .before .before .before .before .before .before in
+    less-left _ _ (x .loop-test .taken)
+
+loop-again-3 : tie.Need-loop-again-3 Inv-loop μ-loop
+loop-again-3 c =
+    let x = c .before .before .before .before .before .before in
+    let w = turning-of _ _ _ _ _ _ _ _ _ (x .before .loop .inv) (x .loop-test .taken) in
+    let h = below-of _ _ _ _ _ _ _ _ _ (x .before .loop .inv) (x .loop-test .taken) in
+    let e = c .before .before .before .before .aimed .ensures in
+    running-again _ _ _ _ _ _ _ _ _ (x .before .loop .inv) (x .loop-test .taken) _ _ _
+    (⊎-elim
+    (λ y. turn-on-dropped _ _ _ _ _ _ _ _ w h _ e (y .0 .taken) (y .2 .taken) _ _ (y .4 .ensures) _ (ap (λ (a : Aim). a .code) (y .8) ∙ y .5 .ensures) _ _ _ (y .6 .ensures ∙ ap (λ (a : Aim). drops (a .code)) (sym (y .8))) (y .7 .left) (c .before .none .ensures) (c .then3 .ensures))
+    (⊎-elim
+    (λ y. turn-off-dropped _ _ _ _ _ _ _ _ w h _ e (y .0 .taken) (y .2 .left) _ _ (y .4 .ensures) _ (ap (λ (a : Aim). a .code) (y .8) ∙ y .5 .ensures) _ _ _ (y .6 .ensures ∙ ap (λ (a : Aim). drops (a .code)) (sym (y .8))) (y .7 .left) (c .before .none .ensures) (c .then3 .ensures))
+    (λ y. turn-missed _ _ _ _ _ _ _ _ w h _ _ _ _ e (y .0 .left) (ap (λ (a : Aim). a .code) (y .1)) (c .before .none .ensures) (c .then3 .ensures)))
+    (c .before .before .if1 .came))
+
+changed-requires : tie.Need-changed-requires Inv-loop μ-loop
+changed-requires c κs = tt
 
 answered-requires : tie.Need-answered-requires Inv-loop μ-loop
 answered-requires c κs = tt
 
 returns : tie.Need-returns Inv-loop μ-loop
 returns c =
-    let l = c .before .before .loop in
-    let g = c .before .before .before .before .before .args in
-    turning-end (g .t) (g .address) (g .t3) (l .u) (l .keys) (l .done) (l .i) _ (l .inv) (c .before .loop-test .left) (c .answered .ensures)
+    let s = c .before .before in
+    running-end _ _ _ _ _ _ _ _ _ (s .before .loop .inv) (s .loop-test .left) (c .answered .ensures ∙ (λ k. answered (c .before .changed .ensures k) (s .before .loop .done)))
 
 pub deliver-spec : {M : Type 1} → statement M
 deliver-spec =
@@ -352,49 +274,43 @@ deliver-spec =
     (tie.spec
     Inv-loop
     μ-loop
-    cast-n
-    keys-of-requires
-    none-requires
     loop-holds
     mul-r
     element-copy-out-r
     aimed-requires
-    no-view-requires
+    mul-opened-on
+    array-copy-out-opened-on
+    opened-on-requires
+    on-code-requires
+    drops-requires
+    on-taken-requires
+    on-view-requires
     then-requires
+    mul-ons
+    array-set-from-ons
+    with-on-requires
     add-i
     loop-less
     loop-again
-    mul-e
-    element-copy-out-e
-    on-step-requires
-    on-view-requires
+    mul-opened-off
+    array-copy-out-opened-off
+    opened-off-requires
+    off-code-requires
+    drops-requires-2
+    off-taken-requires
+    off-view-requires
     then-requires-2
-    drops-requires
+    mul-offs
+    array-set-from-offs
+    with-off-requires
     add-i-2
     loop-less-2
     loop-again-2
-    mul-c
-    element-set-from-c
-    in-use-requires
-    with-on-key-requires
+    none-requires
+    then-requires-3
     add-i-3
     loop-less-3
     loop-again-3
-    mul-e-2
-    element-copy-out-e-2
-    off-step-requires
-    off-view-requires
-    then-requires-3
-    drops-requires-2
-    add-i-4
-    loop-less-4
-    loop-again-4
-    mul-c-2
-    element-set-from-c-2
-    in-use-requires-2
-    with-off-key-requires
-    add-i-5
-    loop-less-5
-    loop-again-5
+    changed-requires
     answered-requires
     returns)

@@ -5,18 +5,14 @@ use Rattle.records.proofs.loose_on.Tie as tie
 packet-requires : tie.Need-packet-requires
 packet-requires c κs = search onward
 
-add-in-packet-requires : tie.Need-add-in-packet-requires
-add-in-packet-requires c κs = search onward
-
-returns : tie.Need-returns
-returns c = search onward
+add-granted-requires : tie.Need-add-granted-requires
+add-granted-requires c κs = search onward
 
 acked-requires : tie.Need-acked-requires
 acked-requires c κs = search onward
 
-returns-2 : tie.Need-returns-2
-returns-2 c = search onward
+returns : tie.Need-returns
+returns c = search onward
 
 pub loose-on-spec : {M : Type 1} → statement M
-loose-on-spec =
-    tie.close (tie.spec packet-requires add-in-packet-requires returns acked-requires returns-2)
+loose-on-spec = tie.close (tie.spec packet-requires add-granted-requires acked-requires returns)

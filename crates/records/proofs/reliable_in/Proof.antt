@@ -2,31 +2,18 @@ use Rattle.records.proofs.On.{onward}
 use Rattle.records.proofs.reliable_in.Statement.{statement}
 use Rattle.records.proofs.reliable_in.Tie as tie
 
-returns : tie.Need-returns
-returns c = search onward
-
 packet-requires : tie.Need-packet-requires
 packet-requires c κs = search onward
 
 add-in-reliable-packet-requires : tie.Need-add-in-reliable-packet-requires
 add-in-reliable-packet-requires c κs = search onward
 
-returns-2 : tie.Need-returns-2
-returns-2 c = search onward
-
 taken-in-requires : tie.Need-taken-in-requires
 taken-in-requires c κs = search onward
 
-returns-3 : tie.Need-returns-3
-returns-3 c = search onward
+returns : tie.Need-returns
+returns c = search onward
 
 pub reliable-in-spec : {M : Type 1} → statement M
 reliable-in-spec =
-    tie.close
-    (tie.spec
-    returns
-    packet-requires
-    add-in-reliable-packet-requires
-    returns-2
-    taken-in-requires
-    returns-3)
+    tie.close (tie.spec packet-requires add-in-reliable-packet-requires taken-in-requires returns)
