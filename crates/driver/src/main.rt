@@ -9,7 +9,7 @@ fn answer(input: &[u8])
     requires { ⌜ length (now input) ≤ 60000 ⌝ }
 {
     let mut out = io::large_buffer();
-    let mut s = script::start();
+    let mut s = held::start();
     let mut at = 0;
     while at < input.len() {
         let r = script::run(s, input, at, &mut out);

@@ -7,22 +7,20 @@ use native.Mathlib.Omega.{arith}
 use lib.Dec.{eqb}
 use lib.ListN.{length, drop}
 use borrow.Author.Tests.{eq-eqb, ne-eqb, eqb-true, eqb-false}
-use Rattle.lists.proofs.Pad.{and-left, and-right}
-use Rattle.reading.specs.declared.Number.{Number}
-use Rattle.reading.specs.declared.Number.the-variants.{Value, NoNumber}
-use Rattle.reading.specs.declared.Field.{Field}
-use Rattle.reading.specs.declared.Field.the-variants.{Given, Absent, Unreadable}
-use Rattle.reading.specs.declared.Fields.{Fields}
+use Rattle.lists.proofs.Pad.{and-left, and-right, never}
+use Rattle.words.specs.declared.Number.{Number}
+use Rattle.words.specs.declared.Number.the-variants.{Value, NoNumber}
+use Rattle.words.specs.declared.Field.{Field}
+use Rattle.words.specs.declared.Field.the-variants.{Given, Absent, Unreadable}
+use Rattle.fields.specs.declared.Fields.{Fields}
 use Rattle.reading.specs.declared.Kind.the-variants.{In, Pig, Pop, Bad, BadIn}
 use Rattle.packet.specs.declared.Key.{Key}
 use Rattle.packet.specs.Data.{noRecord}
-use Rattle.reading.specs.Text.{bytes}
-use Rattle.reading.specs.Given.{withPrefix}
-use Rattle.reading.specs.Grammar.{begins, numberOf, most64, fieldOf, fromOn, keyOf, badLine, inLine, inPrefix, fromPrefix, inAddress, fromAddress, inTime, fromTime, afterIn, popEnd, popIndexed, popIndex, popOn, popOff, popAddress, readPop, pigLine, pigPrefix, readPig, lineOf}
+use Rattle.words.specs.Text.{bytes}
+use Rattle.words.specs.Words.{begins, numberOf, most64, fieldOf}
+use Rattle.fields.specs.Readers.{fieldsOf}
+use Rattle.reading.specs.Grammar.{keyOf, badLine, inLine, inPrefix, fromPrefix, inAddress, fromAddress, inTime, fromTime, afterIn, popEnd, popIndexed, popIndex, popOn, popOff, popAddress, readPop, pigLine, pigPrefix, readPig, lineOf}
 use Rattle.reading.specs.FirstWord.{firstWord, isIn, usesUp}
-
-never : {P : Type 0} → _≡_ {A = ℕ} 0 1 → P
-never z = absurd (omega arith)
 
 -- ---- after `in` and a blank every way ends in an `in`
 
@@ -39,7 +37,7 @@ unfolding fromPrefix badLine
 in-prefix line t a = at (fieldOf (bytes " ") line)
   where
     at : (f : Field) → usesUp (inPrefix f line t a .kind) ≡ true
-    at (Given p n) = in-line (fromOn (drop n line) (withPrefix p noRecord)) t a
+    at (Given p n) = in-line (fieldsOf p (drop n line)) t a
     at Absent = refl
     at Unreadable = refl
 
@@ -117,7 +115,7 @@ unfolding readPig badLine
 pig-line line = at (fieldOf (bytes "pig ") line)
   where
     at : (f : Field) → usesUp (pigPrefix f line .kind) ≡ false
-    at (Given p n) = pig-fields (fromOn (drop n line) (withPrefix p noRecord))
+    at (Given p n) = pig-fields (fieldsOf p (drop n line))
     at Absent = pop-line line
     at Unreadable = refl
 

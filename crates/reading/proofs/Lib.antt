@@ -1,4 +1,3 @@
-pub mod Numbers
-pub mod Readers
+pub mod Commands
 pub mod FirstWord
 pub mod Sample

@@ -7,8 +7,8 @@ use lib.Dec.{eqb}
 use lib.ListN.{length}
 use Rattle.reading.specs.declared.Kind.{Kind}
 use Rattle.reading.specs.declared.Kind.the-variants.{In, Pig, Pop, Bad, BadIn}
-use Rattle.reading.specs.Text.{bytes}
-use Rattle.reading.specs.Grammar.{begins}
+use Rattle.words.specs.Text.{bytes}
+use Rattle.words.specs.Words.{begins}
 
 -- up to a blank or the end of the line
 unfoldable pub firstWord : List ℕ → List ℕ

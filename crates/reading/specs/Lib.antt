@@ -1,4 +1,2 @@
-pub mod Text
-pub mod Given
 pub mod Grammar
 pub mod FirstWord

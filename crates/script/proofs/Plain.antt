@@ -5,7 +5,7 @@ use mathlib.Core.List.{List, [], _∷_, _++_}
 use Prim.Native.Nat.{ℕ, _+_, _≤_, _<_}
 use native.Mathlib.Omega.{arith}
 use borrow.Author.Tests.{lt-ltb, le-ltb, lt-leb, ltb-true, ltb-false}
-use lib.Dec.{eqb, ltb, leb}
+use lib.Dec.{ltb, leb}
 use lib.ListN.{length, drop, set, length-append}
 use lib.Seq.{take-append-seam}
 use Rattle.lists.specs.Pad.{pad}
@@ -14,7 +14,6 @@ use Rattle.packet.specs.declared.Record.{Record}
 use Rattle.packet.specs.declared.Key.{Key}
 use Rattle.packet.specs.Data.{noRecord, keyMade}
 use Rattle.model.specs.State as model
-use Rattle.model.specs.Refusals.{Refusal, notWellFormed, outOfRange, timeBelow, channelAbsent, tableFull, oldVersion, cumulativeOff, lastOnReliable, lastNotExpected, lastOff, beyondGroup, overLimit, listTooShort, number}
 use Rattle.model.specs.Rust.{hasKey, dataOf}
 use Rattle.model.specs.Calls.{accept, nextBundle, Answer, lent}
 use Rattle.model.specs.Port.{deliveryMade, deliver, deliveryAnswer, onTime, acceptS, play, Result, takes, refuses, lastResult, count, handOut, next, nextOf, nextBundleS, reply}
@@ -28,10 +27,13 @@ use Rattle.reading.specs.declared.Kind.the-variants.{In, Pig, Pop, Bad, BadIn}
 use Rattle.reading.specs.declared.Line.{Line}
 use Rattle.reading.specs.Grammar.{lineOf}
 use Rattle.writing.specs.Answers.{badLine, bundleLine}
-use Rattle.script.specs.declared.State.{State}
-use Rattle.script.specs.Script.{noneHeld, start, added, Answered, answered, deliveryText, afterDelivery, afterIn, places, popText, afterPop, byKind, stepOf}
+use Rattle.held.specs.declared.State.{State}
+use Rattle.held.specs.Held.{noneHeld, start, added}
+use Rattle.answers.specs.Answers.{Answered, answered, deliveryText, afterDelivery, afterIn, places, popText, afterPop}
+use Rattle.lines.specs.Lines.{byKind, stepOf}
 use Rattle.script.specs.Input.{cutOf, answers, unfinished, runFrom, read, runOf}
-use Rattle.script.proofs.Steps.{held-more, held-over}
+use Rattle.delivery.proofs.Numbers.{number-some}
+use Rattle.held.proofs.Held.{held-more, held-over}
 use Rattle.script.specs.Plain.{Plain, plain, answerText, plainKind, plainStep, plainAnswers, plainRun}
 
 -- ---- held records: the first eight in their places, and their count, 9 where there are more
@@ -112,21 +114,6 @@ accepted-is t time a hs = ap deliveredOf (same (ltb (length hs) 9) refl)
         long time a (recordsOf (batchOf hs)) hs t (omega (arith, length-pad (batchOf hs .count) noRecord (pad 8 noRecord hs), many hs h)) (omega arith)
 
 -- ---- the texts of the answers
-
-number-some : (x : Refusal) → eqb (number x) 0 ≡ false
-number-some notWellFormed = refl
-number-some outOfRange = refl
-number-some timeBelow = refl
-number-some channelAbsent = refl
-number-some tableFull = refl
-number-some oldVersion = refl
-number-some cumulativeOff = refl
-number-some lastOnReliable = refl
-number-some lastNotExpected = refl
-number-some lastOff = refl
-number-some beyondGroup = refl
-number-some overLimit = refl
-number-some listTooShort = refl
 
 abbrev outcome : Answer → Table → Outcome
 outcome x u = record { answer = x; table = u }

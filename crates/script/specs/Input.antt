@@ -7,9 +7,10 @@ use lib.Dec.{ltb, eqb}
 use lib.ListN.{length, take, drop}
 use Rattle.writing.specs.Answers.{badLine}
 use Rattle.writing.specs.Wrote.{Wrote}
-use Rattle.script.specs.declared.State.{State}
+use Rattle.held.specs.declared.State.{State}
 use Rattle.script.specs.declared.Ran.{Ran}
-use Rattle.script.specs.Script.{start, stepOf}
+use Rattle.held.specs.Held.{start}
+use Rattle.lines.specs.Lines.{stepOf}
 
 -- ---- lines
 

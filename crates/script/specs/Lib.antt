@@ -1,3 +1,2 @@
-pub mod Script
 pub mod Input
 pub mod Plain

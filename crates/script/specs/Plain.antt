@@ -15,7 +15,7 @@ use Rattle.reading.specs.declared.Kind.the-variants.{In, Pig, Pop, Bad, BadIn}
 use Rattle.reading.specs.declared.Line.{Line}
 use Rattle.reading.specs.Grammar.{lineOf}
 use Rattle.writing.specs.Answers.{okLine, noLine, badLine, noneLine, bundleLine}
-use Rattle.script.specs.Script.{places}
+use Rattle.answers.specs.Answers.{places}
 use Rattle.script.specs.Input.{cutOf, unfinished, read}
 
 pub record Plain : Type 0 where

@@ -11,8 +11,8 @@ use borrow.Author.Tests.{ltb-true, ltb-false, le-leb, ne-eqb}
 use Rattle.lists.specs.Pad.{allb}
 use Rattle.lists.proofs.Pad.{and-left, and-right}
 use Rattle.lists.proofs.Tests.{allb-snoc}
-use Rattle.reading.specs.declared.Number.the-variants.{Value}
-use Rattle.reading.specs.Grammar.{isDigit, leading, valueFrom, value, numberOf}
+use Rattle.words.specs.declared.Number.the-variants.{Value}
+use Rattle.words.specs.Words.{isDigit, leading, valueFrom, value, numberOf}
 use Rattle.writing.specs.Answers.{lastAfter, digitsN, digits}
 
 -- fuel above the number changes nothing

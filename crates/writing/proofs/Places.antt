@@ -13,7 +13,7 @@ use borrow.Author.Tests.{eq-eqb, ne-eqb}
 use Rattle.lists.specs.Find.{writtenAt}
 use Rattle.lists.proofs.Copies.{written-none, written-after}
 use Rattle.packet.specs.declared.View.{View}
-use Rattle.reading.specs.Text.{bytes}
+use Rattle.words.specs.Text.{bytes}
 use Rattle.writing.specs.Answers.{digits, indexText, worded, okLine, noLine, handlesText, bundleLine}
 use Rattle.writing.specs.Wrote.{Wrote}
 use Rattle.writing.proofs.Digits.{digits-small, digits-more, digits-short}

@@ -3,7 +3,7 @@ use mathlib.Core.Path.{_≡_, refl}
 use mathlib.Core.List.{[], _∷_}
 use Prim.Native.Nat.{ℕ}
 use Rattle.packet.specs.declared.View.{View}
-use Rattle.reading.specs.Text.{bytes}
+use Rattle.words.specs.Text.{bytes}
 use Rattle.writing.specs.Answers.{okLine, noLine, bundleLine, noneLine, handlesText, worded, indexText, digits, digitsN}
 
 abbrev onView : ℕ → ℕ → ℕ → ℕ → View

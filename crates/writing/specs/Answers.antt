@@ -6,7 +6,7 @@ use lib.Dec.{eqb}
 use lib.ListN.{length}
 use Rattle.packet.specs.declared.View.{View}
 use Rattle.packet.specs.Data.{isSet}
-use Rattle.reading.specs.Text.{bytes}
+use Rattle.words.specs.Text.{bytes}
 
 -- a decimal number without leading zeros: the digits of its tenth where it has one, and then its last digit. A number is above its tenth, so
 -- its own value is enough fuel

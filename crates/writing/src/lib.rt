@@ -5,7 +5,6 @@ ghost use mathlib.Core.Path.{_≡_};
 ghost use mathlib.Core.List.{[], _∷_};
 ghost use Prim.Native.Nat.{_+_, _≤_, _<_};
 ghost use lib.ListN.{length, take};
-ghost use Rattle.reading.specs.Text.{bytes};
 ghost use Rattle.writing.specs.Answers as Answers;
 ghost use Rattle.writing.specs.Wrote.{Wrote};
 

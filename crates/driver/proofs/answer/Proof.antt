@@ -6,7 +6,7 @@ use Prim.Native.Nat.{_-_, _≤_, _<_}
 use mathlib.Core.Path.{_≡_, sym, _∙_}
 use lib.ListN.{length}
 use Rattle.script.specs.Input.{Left}
-use Rattle.script.proofs.Lines.{left-start, left-next, left-less, left-within}
+use Rattle.script.proofs.Input.{left-start, left-next, left-less, left-within}
 use Rattle.driver.proofs.answer.Statement.{statement}
 use Rattle.driver.proofs.answer.Tie as tie
 

@@ -1,5 +1,5 @@
 -- The end, a blank, or a longer word. Assumes nothing.
-use Rattle.reading.proofs.Readers.{commands}
+use Rattle.reading.proofs.Commands.{commands}
 use Rattle.reading.proofs.after_in.Statement.{statement}
 use Rattle.reading.proofs.after_in.Tie as tie
 

@@ -1,5 +1,5 @@
 -- A blank and a number, and then the prefix. Assumes nothing.
-use Rattle.reading.proofs.Readers.{commands}
+use Rattle.reading.proofs.Commands.{commands}
 use Rattle.reading.proofs.from_address.Statement.{statement}
 use Rattle.reading.proofs.from_address.Tie as tie
 

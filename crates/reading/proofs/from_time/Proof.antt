@@ -1,5 +1,5 @@
 -- A number, and then the address. Assumes nothing.
-use Rattle.reading.proofs.Readers.{commands}
+use Rattle.reading.proofs.Commands.{commands}
 use Rattle.reading.proofs.from_time.Statement.{statement}
 use Rattle.reading.proofs.from_time.Tie as tie
 

@@ -1,5 +1,5 @@
 -- The fields were read, or were not. Assumes nothing.
-use Rattle.reading.proofs.Readers.{commands}
+use Rattle.reading.proofs.Commands.{commands}
 use Rattle.reading.proofs.pig_line.Statement.{statement}
 use Rattle.reading.proofs.pig_line.Tie as tie
 

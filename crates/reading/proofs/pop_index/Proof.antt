@@ -1,5 +1,5 @@
 -- The word with its number, or no command. Assumes nothing.
-use Rattle.reading.proofs.Readers.{commands}
+use Rattle.reading.proofs.Commands.{commands}
 use Rattle.reading.proofs.pop_index.Statement.{statement}
 use Rattle.reading.proofs.pop_index.Tie as tie
 

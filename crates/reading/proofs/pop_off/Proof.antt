@@ -1,5 +1,5 @@
 -- The word, or the next. Assumes nothing.
-use Rattle.reading.proofs.Readers.{commands}
+use Rattle.reading.proofs.Commands.{commands}
 use Rattle.reading.proofs.pop_off.Statement.{statement}
 use Rattle.reading.proofs.pop_off.Tie as tie
 

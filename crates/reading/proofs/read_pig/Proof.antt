@@ -1,5 +1,5 @@
 -- The word with its number, or a `pop`. Assumes nothing.
-use Rattle.reading.proofs.Readers.{commands}
+use Rattle.reading.proofs.Commands.{commands}
 use Rattle.reading.proofs.read_pig.Statement.{statement}
 use Rattle.reading.proofs.read_pig.Tie as tie
 

@@ -1,5 +1,5 @@
 -- The word with its number, or no command. Assumes nothing.
-use Rattle.reading.proofs.Readers.{commands}
+use Rattle.reading.proofs.Commands.{commands}
 use Rattle.reading.proofs.read_pop.Statement.{statement}
 use Rattle.reading.proofs.read_pop.Tie as tie
 

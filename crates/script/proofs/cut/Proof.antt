@@ -1,5 +1,5 @@
 -- The length, or 60,000. Assumes nothing.
-use Rattle.script.proofs.Lines.{cut-small, cut-large}
+use Rattle.script.proofs.Input.{cut-small, cut-large}
 use Rattle.script.proofs.cut.Statement.{statement}
 use Rattle.script.proofs.cut.Tie as tie
 

@@ -2,7 +2,7 @@
 use Prim.Native.Nat.{_-_}
 use lib.ListN.{length}
 use borrow.Author.Needs.{needs}
-use Rattle.script.proofs.Lines.{Seeking, seek-start, seek-found, seek-next, seek-end}
+use Rattle.script.proofs.Input.{Seeking, seek-start, seek-found, seek-next, seek-end}
 use Rattle.script.proofs.feed.Statement.{statement}
 use Rattle.script.proofs.feed.Tie as tie
 

@@ -2,7 +2,7 @@
 use native.Mathlib.Omega.{arith}
 use Prim.Native.Nat.{_-_, _≤_, _<_}
 use lib.ListN.{length}
-use Rattle.script.proofs.Lines.{Running, run-start, run-turn, turn-room, run-full, run-over, cut-within, read-part}
+use Rattle.script.proofs.Input.{Running, run-start, run-turn, turn-room, run-full, run-over, cut-within, read-part}
 use borrow.Author.Needs.{needs}
 use Rattle.script.proofs.run.Statement.{statement}
 use Rattle.script.proofs.run.Tie as tie
