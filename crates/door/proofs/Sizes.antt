@@ -8,7 +8,7 @@ use Rattle.table.proofs.Table.Laws as Table
 use Rattle.packet.proofs.Record.Laws as Record
 use Rattle.packet.proofs.Key.Laws as Key
 use Rattle.packet.proofs.View.Laws as View
-use Rattle.door.proofs.Arrival.Laws as Arrival
+use Rattle.crossing.proofs.Arrival.Laws as Arrival
 use Rattle.packet.proofs.Prepared.Laws as Prepared
 use Rattle.calls.proofs.Handles.Laws as Handles
 use Rattle.calls.proofs.Names.Laws as Names

@@ -9,29 +9,29 @@ pub struct SeqAlloc {
     pub next: u32,
 }
 
-// The first of the numbers handed out, and what is next after them.
+// The source after an allocation, and the first of the numbers handed out.
 pub struct Moved {
+    pub source: SeqAlloc,
     pub first: u32,
-    pub next: u32,
 }
 
-fn alloc_at(next: u32, count: u32) -> Moved
-    ensures { λ r. ⌜ r ≡ Spec.moved next count ⌝ }
+fn alloc_at(a: SeqAlloc, count: u32) -> Moved
+    ensures { λ r. ⌜ r ≡ Spec.moved a count ⌝ }
 {
-    let first = Seq(next);
+    let first = Seq(a.next);
     let rest = first.add(count);
     Moved {
-        first: next,
-        next: rest.0,
+        source: SeqAlloc { next: rest.0 },
+        first: a.next,
     }
 }
 
-fn observe_at(next: u32, num: u32) -> u32
-    ensures { λ r. ⌜ r ≡ Num.observeS next num ⌝ }
+fn observe_at(a: SeqAlloc, num: u32) -> SeqAlloc
+    ensures { λ r. ⌜ r ≡ Spec.observed a num ⌝ }
 {
-    let a = seq::SeqAlloc { next: Seq(next) };
-    let b = a.observe(Seq(num));
-    b.next.0
+    let b = seq::SeqAlloc { next: Seq(a.next) };
+    let c = b.observe(Seq(num));
+    SeqAlloc { next: c.next.0 }
 }
 
 // "`alloc` answers the next number and moves on by the count."
@@ -39,9 +39,9 @@ fn observe_at(next: u32, num: u32) -> u32
 pub extern "C" fn relay_alloc(a: &mut SeqAlloc, count: u32) -> u32
     ensures { λ r. ⌜ (now (a .exit) .next ≡ Num.add (now (a .entry) .next) count) × (r ≡ now (a .entry) .next) ⌝ }
 {
-    let next = a.next;
-    let s = alloc_at(next, count);
-    a.next = s.next;
+    let c = *a;
+    let s = alloc_at(c, count);
+    *a = s.source;
     s.first
 }
 
@@ -50,7 +50,7 @@ pub extern "C" fn relay_alloc(a: &mut SeqAlloc, count: u32) -> u32
 pub extern "C" fn relay_observe(a: &mut SeqAlloc, num: u32)
     ensures { λ _. ⌜ now (a .exit) .next ≡ Num.observeS (now (a .entry) .next) num ⌝ }
 {
-    let next = a.next;
-    let n = observe_at(next, num);
-    a.next = n;
+    let c = *a;
+    let s = observe_at(c, num);
+    *a = s;
 }

@@ -1,0 +1,2 @@
+pub mod Batches
+mod Steps

@@ -1,0 +1,14 @@
+pub mod Abstract
+pub mod WalkNew
+pub mod WalkWellFormed
+pub mod WalkAccept
+pub mod WalkAcceptOut
+pub mod WalkChannel
+pub mod WalkPrepare
+pub mod WalkAcksWritten
+pub mod WalkHolds
+pub mod WalkLastAcceptedPrefix
+pub mod WalkResetPrefixOffset
+pub mod WalkNextBundle
+pub mod WalkTakeResends
+pub mod WalkObserve
