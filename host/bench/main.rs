@@ -416,7 +416,14 @@ fn working(of: &Table, own: &mut Own) -> Vec<(&'static str, f64, f64)> {
     let record = |on, reliable, number| Record { on, reliable, number, handle: number, ..Record::ZERO };
     let eight = |on, reliable| -> Vec<Record> { (1..9).map(|number| record(on, reliable, number)).collect() };
     let (ordered, loose) = (eight(1, 1), eight(1, 0));
-    let mut rows = Vec::new();
+    // One entry that was sent before all others: it is due at a timeout at which they are not.
+    let mut one = lib::boxed(false);
+    // SAFETY: two tables apart from each other, of integers alone.
+    unsafe { (&mut *one as *mut Table).copy_from_nonoverlapping(of, 1) };
+    assert_eq!(lib::prepare(&mut one, 2, &ON, 1, &Handles { count: 1, ..Handles::ZERO }).code, 0);
+    assert_eq!(lib::take_resends(&mut one, 9, 8, 99, &mut lent), Ok(352));
+    let (ns, of_own) = fresh(&one, own, &mut |t| assert_eq!(lib::take_resends(t, 10, 5, 99, &mut lent), Ok(1)));
+    let mut rows = vec![("take_resends, one due", ns, of_own)];
     let mut of_call = |name, call: &mut dyn FnMut(&mut Table)| {
         let (ns, of_own) = fresh(of, own, call);
         rows.push((name, ns, of_own));
