@@ -2,7 +2,6 @@
 use held::State;
 use packet::Key;
 use packet::Record;
-ghost use mathlib.Core.Path.{_≡_};
 ghost use Prim.Native.Nat.{_+_, _≤_};
 ghost use lib.ListN.{length};
 ghost use Rattle.answers.specs.Answers as Answers;

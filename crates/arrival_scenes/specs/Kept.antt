@@ -1,5 +1,4 @@
 -- What a scene keeps of the lists it works on.
-use mathlib.Core.Path.{_≡_}
 use Rattle.bundles.specs.Bundles as Made
 use Rattle.waiting.specs.Waiting as Waits
 use Rattle.reorder.specs.declared.Reordered.{Reordered}

@@ -23,7 +23,8 @@ use Rattle.channel.specs.Channel.{absOff, reprOff, absOn, reprOn}
 use Rattle.channel.proofs.Laws.{abs-repr-off, abs-repr-on}
 use Rattle.table.specs.declared.Table.{Table}
 use Rattle.table.specs.Table.{abs, repr, Wf, wfb}
-use Rattle.table.proofs.Laws.{onPlace, offPlace, on-here, off-here, storeOn, storeOff, put-on-old, put-off-old, put-on-new, put-off-new}
+use Rattle.table.specs.Places.{placeOn, placeOff}
+use Rattle.table.proofs.Laws.{on-here, off-here, storeOn, storeOff, put-on-old, put-off-old, put-on-new, put-off-new}
 use Rattle.table.proofs.Test.{test-wf}
 use Rattle.table.proofs.Places.{few-offs, few-ons, off-at-fits, on-at-fits}
 use Rattle.calls.specs.Calls.{tableReply, called}
@@ -64,49 +65,49 @@ module _ (s : model.State) (t : Table) (form : t ≡ repr s) (few : length (s .p
   unfolding repr
   on-count = ap (λ (u : Table). u .oncount) form
 
-  pub on-there : (a i : ℕ) → onPlace a i s < t .oncount → model.hasOn a i (s .protocol) ≡ true
+  pub on-there : (a i : ℕ) → placeOn a i s < t .oncount → model.hasOn a i (s .protocol) ≡ true
   on-there a i h = has-of-slot (model.isOn a i) (s .protocol .ons) (omega (arith, on-count))
 
-  pub on-absent : (a i : ℕ) → t .oncount ≤ onPlace a i s → model.hasOn a i (s .protocol) ≡ false
+  pub on-absent : (a i : ℕ) → t .oncount ≤ placeOn a i s → model.hasOn a i (s .protocol) ≡ false
   on-absent a i h = absent-of-slot (model.isOn a i) (s .protocol .ons) (omega (arith, on-count))
 
-  pub on-read : (a i v : ℕ) (d : OnChannel) → onPlace a i s < t .oncount → getD (t .ons) (onPlace a i s) d ≡ reprOn (model.onAt a i v (s .protocol))
-  on-read a i v d h = ap (λ (u : Table). getD (u .ons) (onPlace a i s) d) form ∙ on-here s a i v d (omega (arith, on-count)) few
+  pub on-read : (a i v : ℕ) (d : OnChannel) → placeOn a i s < t .oncount → getD (t .ons) (placeOn a i s) d ≡ reprOn (model.onAt a i v (s .protocol))
+  on-read a i v d h = ap (λ (u : Table). getD (u .ons) (placeOn a i s) d) form ∙ on-here s a i v d (omega (arith, on-count)) few
 
   -- in the place of the one of its key, or as a new one after the last
-  pub on-store : (c : model.OnChannel) → onPlace (c .address) (c .index) s < t .oncount
-      → storeOn t (t .oncount) (onPlace (c .address) (c .index) s) (reprOn c) ≡ repr (model.withProtocol (model.putOn c (s .protocol)) s)
+  pub on-store : (c : model.OnChannel) → placeOn (c .address) (c .index) s < t .oncount
+      → storeOn t (t .oncount) (placeOn (c .address) (c .index) s) (reprOn c) ≡ repr (model.withProtocol (model.putOn c (s .protocol)) s)
   on-store c h =
-      ap (λ (u : Table). storeOn u (u .oncount) (onPlace (c .address) (c .index) s) (reprOn c)) form ∙ put-on-old s c (omega (arith, on-count)) few
+      ap (λ (u : Table). storeOn u (u .oncount) (placeOn (c .address) (c .index) s) (reprOn c)) form ∙ put-on-old s c (omega (arith, on-count)) few
 
-  pub on-store-new : (c : model.OnChannel) → t .oncount ≤ onPlace (c .address) (c .index) s → onPlace (c .address) (c .index) s < 8
-      → storeOn t (t .oncount + 1) (onPlace (c .address) (c .index) s) (reprOn c) ≡ repr (model.withProtocol (model.putOn c (s .protocol)) s)
+  pub on-store-new : (c : model.OnChannel) → t .oncount ≤ placeOn (c .address) (c .index) s → placeOn (c .address) (c .index) s < 8
+      → storeOn t (t .oncount + 1) (placeOn (c .address) (c .index) s) (reprOn c) ≡ repr (model.withProtocol (model.putOn c (s .protocol)) s)
   on-store-new c h l =
-      ap (λ (u : Table). storeOn u (u .oncount + 1) (onPlace (c .address) (c .index) s) (reprOn c)) form ∙ put-on-new s c (omega (arith, on-count)) l
+      ap (λ (u : Table). storeOn u (u .oncount + 1) (placeOn (c .address) (c .index) s) (reprOn c)) form ∙ put-on-new s c (omega (arith, on-count)) l
 
 module _ (s : model.State) (t : Table) (form : t ≡ repr s) (few : length (s .protocol .offs) ≤ 4) where
   pub off-count : t .offcount ≡ length (s .protocol .offs)
   unfolding repr
   off-count = ap (λ (u : Table). u .offcount) form
 
-  pub off-there : (a : ℕ) → offPlace a s < t .offcount → model.hasOff a (s .protocol) ≡ true
+  pub off-there : (a : ℕ) → placeOff a s < t .offcount → model.hasOff a (s .protocol) ≡ true
   off-there a h = has-of-slot (model.isOff a) (s .protocol .offs) (omega (arith, off-count))
 
-  pub off-absent : (a : ℕ) → t .offcount ≤ offPlace a s → model.hasOff a (s .protocol) ≡ false
+  pub off-absent : (a : ℕ) → t .offcount ≤ placeOff a s → model.hasOff a (s .protocol) ≡ false
   off-absent a h = absent-of-slot (model.isOff a) (s .protocol .offs) (omega (arith, off-count))
 
-  pub off-read : (a : ℕ) (d : OffChannel) → offPlace a s < t .offcount → getD (t .offs) (offPlace a s) d ≡ reprOff (model.offAt a (s .protocol))
-  off-read a d h = ap (λ (u : Table). getD (u .offs) (offPlace a s) d) form ∙ off-here s a d (omega (arith, off-count)) few
+  pub off-read : (a : ℕ) (d : OffChannel) → placeOff a s < t .offcount → getD (t .offs) (placeOff a s) d ≡ reprOff (model.offAt a (s .protocol))
+  off-read a d h = ap (λ (u : Table). getD (u .offs) (placeOff a s) d) form ∙ off-here s a d (omega (arith, off-count)) few
 
-  pub off-store : (c : model.OffChannel) → offPlace (c .address) s < t .offcount
-      → storeOff t (t .offcount) (offPlace (c .address) s) (reprOff c) ≡ repr (model.withProtocol (model.putOff c (s .protocol)) s)
+  pub off-store : (c : model.OffChannel) → placeOff (c .address) s < t .offcount
+      → storeOff t (t .offcount) (placeOff (c .address) s) (reprOff c) ≡ repr (model.withProtocol (model.putOff c (s .protocol)) s)
   off-store c h =
-      ap (λ (u : Table). storeOff u (u .offcount) (offPlace (c .address) s) (reprOff c)) form ∙ put-off-old s c (omega (arith, off-count)) few
+      ap (λ (u : Table). storeOff u (u .offcount) (placeOff (c .address) s) (reprOff c)) form ∙ put-off-old s c (omega (arith, off-count)) few
 
-  pub off-store-new : (c : model.OffChannel) → t .offcount ≤ offPlace (c .address) s → offPlace (c .address) s < 4
-      → storeOff t (t .offcount + 1) (offPlace (c .address) s) (reprOff c) ≡ repr (model.withProtocol (model.putOff c (s .protocol)) s)
+  pub off-store-new : (c : model.OffChannel) → t .offcount ≤ placeOff (c .address) s → placeOff (c .address) s < 4
+      → storeOff t (t .offcount + 1) (placeOff (c .address) s) (reprOff c) ≡ repr (model.withProtocol (model.putOff c (s .protocol)) s)
   off-store-new c h l =
-      ap (λ (u : Table). storeOff u (u .offcount + 1) (offPlace (c .address) s) (reprOff c)) form ∙ put-off-new s c (omega (arith, off-count)) l
+      ap (λ (u : Table). storeOff u (u .offcount + 1) (placeOff (c .address) s) (reprOff c)) form ∙ put-off-new s c (omega (arith, off-count)) l
 
 -- ---- a key: which of the two kinds it names
 
@@ -139,14 +140,14 @@ module _ (k : Key) (p : model.Protocol) where
 
 -- where the channel that a key names stands
 abbrev pub keyPlaceOn : Key → model.State → ℕ
-keyPlaceOn k s = onPlace (k .address) (keyIndex k) s
+keyPlaceOn k s = placeOn (k .address) (keyIndex k) s
 
 abbrev pub keyPlaceOff : Key → model.State → ℕ
-keyPlaceOff k s = offPlace (k .address) s
+keyPlaceOff k s = placeOff (k .address) s
 
 -- its index is looked up first
-pub key-placed : (k : Key) (s : model.State) (i at : ℕ) → i ≡ keyIndex k → at ≡ onPlace (k .address) i s → at ≡ keyPlaceOn k s
-key-placed k s i at e q = q ∙ ap (λ (j : ℕ). onPlace (k .address) j s) e
+pub key-placed : (k : Key) (s : model.State) (i at : ℕ) → i ≡ keyIndex k → at ≡ placeOn (k .address) i s → at ≡ keyPlaceOn k s
+key-placed k s i at e q = q ∙ ap (λ (j : ℕ). placeOn (k .address) j s) e
 
 -- ---- a channel named by a key in a well-formed table
 
@@ -181,7 +182,7 @@ module _ (t : Table) (w : Wf t) (k : Key) where
   on-key-store o h d =
       let p = abs t .protocol in
       let c = keyOn k p in
-      let x : onPlace (c .address) (c .index) (abs t) ≡ keyPlaceOn k (abs t) = λ j. onPlace (on-at-address (k .address) (keyIndex k) (firstVersion k) p j) (on-at-index (k .address) (keyIndex k) (firstVersion k) p j) (abs t) in
+      let x : placeOn (c .address) (c .index) (abs t) ≡ keyPlaceOn k (abs t) = λ j. placeOn (on-at-address (k .address) (keyIndex k) (firstVersion k) p j) (on-at-index (k .address) (keyIndex k) (firstVersion k) p j) (abs t) in
       ap (λ (i : ℕ). storeOn t (t .oncount) i (reprOn (model.onWith d c))) (sym x)
       ∙ on-store (abs t) t (w .form) (few-ons t w) (model.onWith d c) (omega (arith, x))
       ∙ ap (λ (q : model.Protocol). repr (model.withProtocol q (abs t))) (sym (on-key-put k p o d))
@@ -191,14 +192,14 @@ module _ (t : Table) (w : Wf t) (k : Key) where
   off-key-store o h d =
       let p = abs t .protocol in
       let c = keyOff k p in
-      let x : offPlace (c .address) (abs t) ≡ keyPlaceOff k (abs t) = ap (λ (a : ℕ). offPlace a (abs t)) (off-at-address (k .address) p) in
+      let x : placeOff (c .address) (abs t) ≡ keyPlaceOff k (abs t) = ap (λ (a : ℕ). placeOff a (abs t)) (off-at-address (k .address) p) in
       ap (λ (i : ℕ). storeOff t (t .offcount) i (reprOff (model.offWith d c))) (sym x)
       ∙ off-store (abs t) t (w .form) (few-offs t w) (model.offWith d c) (omega (arith, x))
       ∙ ap (λ (q : model.Protocol). repr (model.withProtocol q (abs t))) (sym (off-key-put k p o d))
 
 -- ---- the channel that stands at the key's place, where that is below the count
 
-module _ (t : Table) (w : Wf t) (k : Key) (i at : ℕ) (x : i ≡ keyIndex k) (q : at ≡ onPlace (k .address) i (abs t)) (h : at < t .oncount) where
+module _ (t : Table) (w : Wf t) (k : Key) (i at : ℕ) (x : i ≡ keyIndex k) (q : at ≡ placeOn (k .address) i (abs t)) (h : at < t .oncount) where
   pub on-standing-below : keyPlaceOn k (abs t) < t .oncount
   on-standing-below = omega (arith, key-placed k (abs t) i at x q)
 
@@ -208,7 +209,7 @@ module _ (t : Table) (w : Wf t) (k : Key) (i at : ℕ) (x : i ≡ keyIndex k) (q
   pub on-standing-abs : (d : OnChannel) → absOn (getD (t .ons) at d) ≡ keyOn k (abs t .protocol)
   on-standing-abs d = ap (λ (c : OnChannel). absOn c) (on-standing d) ∙ abs-repr-on (keyOn k (abs t .protocol)) (on-key-fits t w k)
 
-module _ (t : Table) (w : Wf t) (k : Key) (at : ℕ) (q : at ≡ offPlace (k .address) (abs t)) (h : at < t .offcount) where
+module _ (t : Table) (w : Wf t) (k : Key) (at : ℕ) (q : at ≡ placeOff (k .address) (abs t)) (h : at < t .offcount) where
   pub off-standing-below : keyPlaceOff k (abs t) < t .offcount
   off-standing-below = omega (arith, q)
 

@@ -12,7 +12,7 @@ use Rattle.table.specs.declared.Table.{Table}
 use Rattle.table.specs.Keys.{isAddress, isKey, keysOf}
 use Rattle.table.specs.Table.{abs, Wf}
 use Rattle.table.proofs.Places.{on-slot-at, off-slot-at}
-use Rattle.calls.specs.Places.{placeOn, placeOff}
+use Rattle.table.specs.Places.{placeOn, placeOff}
 use Rattle.calls.proofs.Called.{on-limit, off-limit}
 
 pub index-named : (k : Key) → k .indexed ≡ 1 → k .index ≡ keyIndex k

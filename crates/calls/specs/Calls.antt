@@ -25,19 +25,19 @@ use Rattle.calls.specs.declared.Held.{Held}
 use Rattle.calls.specs.declared.Prefix.{Prefix}
 
 -- the answer and the next table of a call
-pub record Outcome : Type 0 where
+pub record TableReply : Type 0 where
   pub answer : Answer
   pub table : Table
 
-abbrev pub tableReply : Reply → Outcome
+abbrev pub tableReply : Reply → TableReply
 tableReply r = record { answer = r .answer; table = repr (r .state) }
 
-abbrev pub calledIf : Bool → Call → Table → Outcome
+abbrev pub calledIf : Bool → Call → Table → TableReply
 calledIf true e t = tableReply (reply e (abs t))
 calledIf false e t = record { answer = answerOne e; table = t }
 
 -- any call on any table
-unfoldable pub called : Call → Table → Outcome
+unfoldable pub called : Call → Table → TableReply
 called e t = calledIf (wfb t) e t
 
 -- ---- lists that are given as an array and a count: past the array's end they go on with zeros, so a count that is too large is a list too long
@@ -53,28 +53,28 @@ namesOf n = pad (n .count) 0 (n .numbers)
 
 -- ---- the structs
 
-abbrev pub deliveredOf : Outcome → Delivered
+abbrev pub deliveredOf : TableReply → Delivered
 deliveredOf o = record { table = o .table; code = codeOf (o .answer); count = countOf (o .answer); view = viewOf (o .answer) }
 
-abbrev pub foundOf : Outcome → Found
+abbrev pub foundOf : TableReply → Found
 foundOf o = record { table = o .table; code = codeOf (o .answer); view = viewOf (o .answer) }
 
-abbrev pub poppedOf : Outcome → Popped
+abbrev pub poppedOf : TableReply → Popped
 poppedOf o = record { table = o .table; code = codeOf (o .answer); some = someOf (o .answer); len = lengthOf (o .answer) }
 
-abbrev pub sentOf : Outcome → Sent
+abbrev pub sentOf : TableReply → Sent
 sentOf o = record { table = o .table; code = codeOf (o .answer); prepared = preparedOf (o .answer) }
 
-abbrev pub resentOf : Outcome → Resent
+abbrev pub resentOf : TableReply → Resent
 resentOf o = record { table = o .table; code = codeOf (o .answer); rows = lengthOf (o .answer) }
 
-abbrev pub doneOf : Outcome → Done
+abbrev pub doneOf : TableReply → Done
 doneOf o = record { table = o .table; code = codeOf (o .answer) }
 
-abbrev pub heldOf : Outcome → Held
+abbrev pub heldOf : TableReply → Held
 heldOf o = record { code = codeOf (o .answer); held = valueOf (o .answer) }
 
-abbrev pub prefixOf : Outcome → Prefix
+abbrev pub prefixOf : TableReply → Prefix
 prefixOf o = record { code = codeOf (o .answer); prefix = valueOf (o .answer) }
 
 -- ---- each call

@@ -8,7 +8,7 @@ use table::Table;
 ghost use mathlib.Core.Path.{_≡_};
 ghost use Rattle.packet.specs.Data.{keyIndex};
 ghost use Rattle.table.specs.Table.{abs, Wf};
-ghost use Rattle.calls.specs.Places.{placeOn, placeOff};
+ghost use Rattle.table.specs.Places.{placeOn, placeOff};
 
 // A delivery: the first `count` of the records, piggybacks before their carrier.
 #[repr(C)]

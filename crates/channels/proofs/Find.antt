@@ -25,9 +25,9 @@ use Rattle.table.specs.Table.{abs, repr, Wf, wfb}
 use Rattle.table.proofs.Laws.{storeOn, storeOff}
 use Rattle.calls.specs.declared.Found.{Found}
 use Rattle.calls.specs.Answers.{noView}
-use Rattle.calls.specs.Calls.{Outcome, tableReply, foundOf, channelOf}
+use Rattle.calls.specs.Calls.{TableReply, tableReply, foundOf, channelOf}
 use Rattle.calls.proofs.Called.{called-refused, called-granted, tested, on-found, off-found, on-key-made, off-key-made, on-key-fits, off-key-fits}
-use Rattle.calls.specs.Places.{placeOn, placeOff}
+use Rattle.table.specs.Places.{placeOn, placeOff}
 use Rattle.channels.specs.declared.Place.{Place}
 use Rattle.channels.specs.Channels.{refusedBy, foundIn, Placed, onSeen, offSeen}
 use Rattle.channels.proofs.Places.{few-ons, few-offs, wf-fits, on-room, off-room, on-full, off-full, on-taken, off-taken, on-stored, off-stored}
@@ -134,7 +134,7 @@ find-off-made t k at n z d v w m o e h q vq nq =
 -- past 1 the call is the model's
 channel-formed : (t : Table) (k : Key) (b : Bool) → b ≡ wfb t → not b ≡ false → channelOf t k ≡ foundIn t k
 unfolding channelOf foundIn reply
-channel-formed t k b e h = ap (λ (o : Outcome). foundOf o) (called-granted (calls.channel k) t (sym e ∙ not-false b h))
+channel-formed t k b e h = ap (λ (o : TableReply). foundOf o) (called-granted (calls.channel k) t (sym e ∙ not-false b h))
 
 refusing : (t : Table) (k : Key) (n : ℕ) → (n ≡ 0 → ⊥) → refusedBy t n ≡ channelOf t k → Placed t k (record { code = n; at = 0 })
 refusing t k n x q =
@@ -142,7 +142,7 @@ refusing t k n x q =
 
 pub place-unformed : (t : Table) (k : Key) (b : Bool) → b ≡ wfb t → not b ≡ true → Placed t k (record { code = 1; at = 0 })
 unfolding channelOf
-place-unformed t k b e h = refusing t k 1 (λ z. omega (arith, z)) (ap (λ (o : Outcome). foundOf o) (sym (called-refused (calls.channel k) t (sym e ∙ not-true b h))))
+place-unformed t k b e h = refusing t k 1 (λ z. omega (arith, z)) (ap (λ (o : TableReply). foundOf o) (sym (called-refused (calls.channel k) t (sym e ∙ not-true b h))))
 
 pub place-malformed : (t : Table) (k : Key) (b m : Bool) → b ≡ wfb t → not b ≡ false → m ≡ keyMade k → not m ≡ true → Placed t k (record { code = 2; at = 0 })
 unfolding foundIn

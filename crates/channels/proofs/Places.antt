@@ -13,8 +13,8 @@ use Rattle.lists.proofs.Find.{find-absent}
 use Rattle.lists.proofs.Slot.{slot-room, room-of}
 use Rattle.model.specs.State as model
 use Rattle.model.specs.Port.{hasPlace}
-use Rattle.kept.proofs.Room.{Fits}
-use Rattle.kept.proofs.Table.{well-facts}
+use Rattle.model.proofs.Room.{Fits}
+use Rattle.model.proofs.Wellformed.{well-facts}
 use Rattle.channel.specs.declared.OffChannel.{OffChannel}
 use Rattle.channel.specs.declared.OnChannel.{OnChannel}
 use Rattle.channel.specs.Channel.{reprOff, reprOn}
@@ -22,7 +22,7 @@ use Rattle.table.specs.declared.Table.{Table}
 use Rattle.table.specs.Table.{abs, repr, Wf, zeroOff, zeroOn}
 use Rattle.table.proofs.Laws.{storeOn, storeOff}
 use Rattle.calls.proofs.Called.{on-limit, off-limit, on-read, off-read, on-absent, off-absent, on-store, off-store, on-store-new, off-store-new}
-use Rattle.calls.specs.Places.{placeOn, placeOff}
+use Rattle.table.specs.Places.{placeOn, placeOff}
 
 -- ---- 4: the channel is there, or there is a place for one more
 

@@ -10,7 +10,7 @@ use Rattle.table.specs.declared.Table.{Table}
 use Rattle.table.specs.Table.{abs, wfb}
 use Rattle.calls.specs.declared.Found.{Found}
 use Rattle.calls.specs.Answers.{noView}
-use Rattle.calls.specs.Places.{placeOn, placeOff}
+use Rattle.table.specs.Places.{placeOn, placeOff}
 use Rattle.calls.specs.Calls.{tableReply, foundOf, channelOf}
 use Rattle.channels.specs.declared.Place.{Place}
 

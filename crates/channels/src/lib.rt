@@ -72,7 +72,7 @@ pub fn counted(count: u32, at: usize) -> u32
 fn placed(t: Table, k: Key) -> Place
     ensures { λ y. ⌜ Placed t k y ⌝ }
 {
-    if !table::well_formed(t) {
+    if !table_test::well_formed(t) {
         return Place { code: 1, at: 0 };
     }
     if !k.well_made() {

@@ -28,10 +28,10 @@ use Rattle.table.specs.Table.{abs, repr, timeSet, Wf, wfb}
 use Rattle.table.proofs.Laws.{storeOn, storeOff}
 use Rattle.calls.specs.declared.Found.{Found}
 use Rattle.calls.specs.Answers.{noView}
-use Rattle.calls.specs.Calls.{Outcome, tableReply, foundOf, acceptedOut}
+use Rattle.calls.specs.Calls.{TableReply, tableReply, foundOf, acceptedOut}
 use Rattle.calls.proofs.Called.{called-refused, called-granted, tested}
 use Rattle.calls.proofs.Timed.{set-form, on-time, wf-room}
-use Rattle.calls.specs.Places.{placeOn, placeOff}
+use Rattle.table.specs.Places.{placeOn, placeOff}
 use Rattle.forward.specs.declared.Timed.{Timed}
 use Rattle.channels.specs.Channels.{refusedBy, onSeen, offSeen}
 use Rattle.channels.proofs.Places.{few-ons, few-offs, wf-fits, on-room, off-room, on-full, off-full, on-taken, off-taken, on-stored, off-stored}
@@ -265,7 +265,7 @@ out-off-granted t time a k n r z d s v w m l o e h q p c nq vq = granted-off t t
 
 out-formed : (t : Table) (time a : ℕ) (r : Record) (b : Bool) → b ≡ wfb t → not b ≡ false → outIn t time a r ≡ acceptedOut t time a r
 unfolding acceptedOut outIn reply
-out-formed t time a r b e h = ap (λ (o : Outcome). foundOf o) (sym (called-granted (calls.acceptOut time a r) t (sym e ∙ not-false b h)))
+out-formed t time a r b e h = ap (λ (o : TableReply). foundOf o) (sym (called-granted (calls.acceptOut time a r) t (sym e ∙ not-false b h)))
 
 stopping : (t : Table) (time a n l : ℕ) (r : Record) (y : Timed) → (n ≡ 0 → ⊥) → refusedBy (timeSet l t) n ≡ acceptedOut t time a r → y ≡ stoppedBy n l → Forwarded t time a r y
 stopping t time a n l r y x q e =
@@ -285,7 +285,7 @@ stopping t time a n l r y x q e =
 pub stop-unformed : (t : Table) (time a : ℕ) (r : Record) (b : Bool) (y : Timed) → b ≡ wfb t → not b ≡ true → y ≡ stoppedBy 1 (t .latest) → Forwarded t time a r y
 unfolding acceptedOut
 stop-unformed t time a r b y e h q =
-    stopping t time a 1 (t .latest) r y (λ z. omega (arith, z)) (ap (λ (o : Outcome). foundOf o) (sym (called-refused (calls.acceptOut time a r) t (sym e ∙ not-true b h)))) q
+    stopping t time a 1 (t .latest) r y (λ z. omega (arith, z)) (ap (λ (o : TableReply). foundOf o) (sym (called-refused (calls.acceptOut time a r) t (sym e ∙ not-true b h)))) q
 
 module _ (t : Table) (time a : ℕ) (r : Record) (b m : Bool) (y : Timed) (e : b ≡ wfb t) (h : not b ≡ false) (g : m ≡ wellMade r) where
   wf-tested : Wf t

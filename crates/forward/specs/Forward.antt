@@ -8,7 +8,7 @@ use Rattle.model.specs.Port.{acceptOutS}
 use Rattle.table.specs.declared.Table.{Table}
 use Rattle.table.specs.Table.{abs, timeSet, wfb}
 use Rattle.calls.specs.declared.Found.{Found}
-use Rattle.calls.specs.Places.{placeOn, placeOff}
+use Rattle.table.specs.Places.{placeOn, placeOff}
 use Rattle.calls.specs.Calls.{tableReply, foundOf, acceptedOut}
 use Rattle.channels.specs.Channels.{refusedBy}
 use Rattle.forward.specs.declared.Timed.{Timed}

@@ -59,7 +59,7 @@ fn stopped(code: u32, latest: u64) -> Timed
 fn out_placed(t: Table, time: u64, address: u32, r: Record) -> Timed
     ensures { λ y. ⌜ Forwarded t time address r y ⌝ }
 {
-    if !table::well_formed(t) {
+    if !table_test::well_formed(t) {
         return stopped(1, t.latest);
     }
     if !r.well_made() {

@@ -23,16 +23,16 @@ use Rattle.bundles.proofs.Model.{wf-repr, abs-repr}
 use Rattle.channel.specs.declared.OffChannel.{OffChannel}
 use Rattle.channel.specs.declared.OnChannel.{OnChannel}
 use Rattle.channel.specs.Channel.{reprOff, reprOn}
-use Rattle.channel.proofs.Laws.{Fits, fits-parts, on-data}
+use Rattle.model.proofs.Room.{DataFits, fits-data-facts, fits-on-facts}
 use Rattle.table.specs.declared.Table.{Table}
 use Rattle.table.specs.Table.{abs, repr, Wf, wfb}
 use Rattle.table.proofs.Laws.{storeOn, storeOff}
 use Rattle.table.proofs.Test.{test-wf}
 use Rattle.calls.specs.declared.Popped.{Popped}
 use Rattle.calls.specs.Answers.{codeOf, someOf, lengthOf}
-use Rattle.calls.specs.Places.{placeOn}
+use Rattle.table.specs.Places.{placeOn}
 use Rattle.calls.specs.Calls as Calls
-use Rattle.calls.specs.Calls.{Outcome, tableReply, called, poppedOf, nextLent}
+use Rattle.calls.specs.Calls.{TableReply, tableReply, called, poppedOf, nextLent}
 use Rattle.calls.proofs.Called.{tested, key-tested, keyPlaceOn, keyPlaceOff, key-placed, on-standing, on-standing-below, off-standing, off-standing-below, called-refused, called-granted, on-key-there, on-key-absent, on-key-fits, on-key-store, on-key-data, on-index, off-key-there, off-key-absent, off-key-fits, off-key-store, off-key-data, off-index}
 use Rattle.offers.specs.declared.Offer.{Offer}
 use Rattle.offers.specs.Offers.{offeredIf, offered, offerOf, leftOf}
@@ -91,11 +91,11 @@ module _ (t : Table) (k : Key) (l : List ℕ) (g : wfb t ≡ true) where
 
   next-is : (r : Popped) → r ≡ poppedOf (tableReply (nextBundleS k (length l) (abs t))) → r ≡ Calls.nextOf t k l
   unfolding Calls.nextOf
-  next-is r q = q ∙ ap (λ (o : Outcome). poppedOf o) (sym granted)
+  next-is r q = q ∙ ap (λ (o : TableReply). poppedOf o) (sym granted)
 
   lent-is : (out : List ℕ) → out ≡ lent (nextBundleS k (length l) (abs t) .answer) l → out ≡ nextLent t k l
   unfolding nextLent
-  lent-is out q = q ∙ ap (λ (o : Outcome). lent (o .answer) l) (sym granted)
+  lent-is out q = q ∙ ap (λ (o : TableReply). lent (o .answer) l) (sym granted)
 
   -- 2 and 13 are said of the table as it is
   refusing : (x : Refusal) → nextBundleS k (length l) (abs t) ≡ record { answer = refused x; state = abs t } → Refusing t k (codeOf (refused x)) l
@@ -178,8 +178,8 @@ module _ (t : Table) (k : Key) (at : ℕ) (d : OnChannel) (h : OnSpot t k at) wh
   on-below : keyPlaceOn k (abs t) < t .oncount
   on-below = on-standing-below t on-wf k (keyIndex k) at refl (h .here) (h .below)
 
-  on-few : Fits (keyOn k (abs t .protocol) .off)
-  on-few = fits-parts (keyOn k (abs t .protocol) .off) (on-data (keyOn k (abs t .protocol)) (on-key-fits t on-wf k))
+  on-few : DataFits (keyOn k (abs t .protocol) .off)
+  on-few = fits-on-facts (keyOn k (abs t .protocol)) (on-key-fits t on-wf k) .common
 
   on-bundles-wf : bundles.Wf (getD (t .ons) at d .bundles)
   on-bundles-wf = let g = keyOn k (abs t .protocol) .off .bundles in rw on-stands (wf-repr g (on-few .bundles) (on-few .handles))
@@ -214,8 +214,8 @@ module _ (t : Table) (k : Key) (at : ℕ) (d : OffChannel) (h : OffSpot t k at) 
   off-below : keyPlaceOff k (abs t) < t .offcount
   off-below = off-standing-below t off-wf k at (h .here) (h .below)
 
-  off-few : Fits (keyOff k (abs t .protocol) .off)
-  off-few = fits-parts (keyOff k (abs t .protocol) .off) (off-key-fits t off-wf k)
+  off-few : DataFits (keyOff k (abs t .protocol) .off)
+  off-few = fits-data-facts (keyOff k (abs t .protocol) .off) (off-key-fits t off-wf k)
 
   off-bundles-wf : bundles.Wf (getD (t .offs) at d .bundles)
   off-bundles-wf = let g = keyOff k (abs t .protocol) .off .bundles in rw off-stands (wf-repr g (off-few .bundles) (off-few .handles))
@@ -252,7 +252,7 @@ pub spot-one : (t : Table) (k : Key) (x : Bool) → x ≡ wfb t → not x ≡ tr
 unfolding Calls.nextOf nextLent
 spot-one t k x e h =
     let r : (l : List ℕ) → called (nextBundle k l) t ≡ record { answer = answerOne (nextBundle k l); table = t } = λ l. called-refused (nextBundle k l) t (sym e ∙ not-true x h) in
-    spot-refused t k 1 (λ z. omega (arith, z)) (λ l. record { answers = ap (λ (o : Outcome). poppedOf o) (sym (r l)); leaves = ap (λ (o : Outcome). lent (o .answer) l) (sym (r l)) })
+    spot-refused t k 1 (λ z. omega (arith, z)) (λ l. record { answers = ap (λ (o : TableReply). poppedOf o) (sym (r l)); leaves = ap (λ (o : TableReply). lent (o .answer) l) (sym (r l)) })
 
 module _ (t : Table) (k : Key) (x : Bool) (e : x ≡ wfb t) (h : not x ≡ false) where
   test : wfb t ≡ true

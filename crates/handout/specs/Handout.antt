@@ -8,7 +8,7 @@ use Rattle.packet.specs.Data.{keyIndex, keyMade}
 use Rattle.table.specs.declared.Table.{Table}
 use Rattle.table.specs.Table.{abs, wfb}
 use Rattle.calls.specs.declared.Popped.{Popped}
-use Rattle.calls.specs.Places.{placeOn, placeOff}
+use Rattle.table.specs.Places.{placeOn, placeOff}
 use Rattle.calls.specs.Calls.{nextOf, nextLent}
 use Rattle.handout.specs.declared.Spot.{Spot}
 

@@ -17,7 +17,7 @@ pub struct Spot {
 fn spot_of(t: Table, k: Key) -> Spot
     ensures { λ r. ⌜ Spotted t k r ⌝ }
 {
-    if !table::well_formed(t) {
+    if !table_test::well_formed(t) {
         return Spot { code: 1, at: 0 };
     }
     if !k.well_made() {

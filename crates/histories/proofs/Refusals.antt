@@ -19,7 +19,7 @@ use Rattle.table.specs.declared.Table.{Table}
 use Rattle.table.specs.Table.{abs, repr, wfb}
 use Rattle.table.proofs.Test.{test-wf}
 use Rattle.calls.specs.Answers.{codeOf}
-use Rattle.calls.specs.Calls.{Outcome, called}
+use Rattle.calls.specs.Calls.{TableReply, called}
 use Rattle.calls.proofs.Called.{called-refused, called-granted}
 use Rattle.histories.specs.Refusals.{tableRows, Answered, Changed}
 
@@ -105,10 +105,10 @@ module _ (e : Call) (t : Table) where
 
   -- the answer on a table that is well formed, and on one that is not
   well : wfb t ≡ true → answer ≡ refusalIn (reply e (abs t) .answer)
-  well q = ap (λ (o : Outcome). refusalIn (o .answer)) (called-granted e t q)
+  well q = ap (λ (o : TableReply). refusalIn (o .answer)) (called-granted e t q)
 
   ill : wfb t ≡ false → answer ≡ some notWellFormed
-  ill q = ap (λ (o : Outcome). refusalIn (o .answer)) (called-refused e t q) ∙ one-is e
+  ill q = ap (λ (o : TableReply). refusalIn (o .answer)) (called-refused e t q) ∙ one-is e
 
   to : (x : Refusal) (b : Bool) → wfb t ≡ b → answer ≡ some x → Decides x (tableRows e t)
   unfolding tableRows Decides
@@ -149,10 +149,10 @@ answered =
 
 module _ (e : Call) (t : Table) (w : wfb t ≡ true) where
   answer-is : called e t .answer ≡ reply e (abs t) .answer
-  answer-is = ap (λ (o : Outcome). o .answer) (called-granted e t w)
+  answer-is = ap (λ (o : TableReply). o .answer) (called-granted e t w)
 
   table-is : (s : State) → reply e (abs t) .state ≡ s → called e t .table ≡ repr s
-  table-is s h = ap (λ (o : Outcome). o .table) (called-granted e t w) ∙ ap (λ (q : State). repr q) h
+  table-is s h = ap (λ (o : TableReply). o .table) (called-granted e t w) ∙ ap (λ (q : State). repr q) h
 
   table-same : reply e (abs t) .state ≡ abs t → called e t .table ≡ t
   table-same h = table-is (abs t) h ∙ sym (test-wf t w .form)
@@ -160,7 +160,7 @@ module _ (e : Call) (t : Table) (w : wfb t ≡ true) where
 pub changed : Changed
 changed =
     record {
-      not-well-formed = λ e t w. ap (λ (o : Outcome). o .table) (called-refused e t w);
+      not-well-formed = λ e t w. ap (λ (o : TableReply). o .table) (called-refused e t w);
       calls = λ e t x w h. table-is e t w _ (effects .of-calls .calls e (abs t) x (sym (answer-is e t w) ∙ h));
       nothing = λ e t x w h m. table-same e t w (effects .of-calls .nothing e (abs t) x (sym (answer-is e t w) ∙ h) m);
       deliveries = λ time a rs t x n w h m.

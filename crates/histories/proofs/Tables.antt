@@ -24,7 +24,7 @@ use Rattle.table.specs.declared.Table.{Table}
 use Rattle.table.specs.Table.{abs, repr, wfb}
 use Rattle.table.proofs.Places.{abs-repr, repr-wf}
 use Rattle.table.proofs.Test.{test-wf, wf-test, meets-parts}
-use Rattle.calls.specs.Calls.{Outcome, tableReply, called}
+use Rattle.calls.specs.Calls.{TableReply, tableReply, called}
 use Rattle.calls.proofs.Called.{called-granted}
 use Rattle.histories.specs.Tables.{Run, answering, runT, grantedT, handedT}
 
@@ -44,7 +44,7 @@ pub kept-table : (e : Call) (t : Table) → wfb t ≡ true → wfb (called e t .
 kept-table e t w =
     let v = test-wf t w in
     let q : called e t ≡ tableReply (reply e (abs t)) = called-granted e t w in
-    subst (λ (o : Outcome). wfb (o .table) ≡ true) (sym q) (passes (reply e (abs t) .state) (kept e (abs t) (v .meets)))
+    subst (λ (o : TableReply). wfb (o .table) ≡ true) (sym q) (passes (reply e (abs t) .state) (kept e (abs t) (v .meets)))
 
 -- a whole history
 pub runs : (es : List Call) (s : State) → wellFormed s ≡ true → runT es (repr s) ≡ record { answers = run es s .answers; table = repr (run es s .state) }
@@ -52,7 +52,7 @@ unfolding runT run
 runs [] s w = refl
 runs (e ∷ es) s w =
     let q : called e (repr s) ≡ tableReply (reply e s) = call-is e s w in
-    ap (λ (o : Outcome). answering (o .answer) (runT es (o .table))) q
+    ap (λ (o : TableReply). answering (o .answer) (runT es (o .table))) q
     ∙ ap (λ (r : Run). answering (reply e s .answer) r) (runs es (reply e s .state) (kept e s w))
 
 -- from a new table
@@ -80,14 +80,14 @@ unfolding grantedT granted
 granted-is a i [] s w = refl
 granted-is a i (e ∷ es) s w =
     ap (λ (q : State). grantedBy a i e q ++ grantedT a i es (called e (repr s) .table)) (back s w)
-    ∙ ap (λ (o : Outcome). grantedBy a i e s ++ grantedT a i es (o .table)) (call-is e s w)
+    ∙ ap (λ (o : TableReply). grantedBy a i e s ++ grantedT a i es (o .table)) (call-is e s w)
     ∙ ap (λ (l : List Record). grantedBy a i e s ++ l) (granted-is a i es (reply e s .state) (kept e s w))
 
 handed-is : (a i : ℕ) (es : List Call) (s : State) → wellFormed s ≡ true → handedT a i es (repr s) ≡ handedOut a i es s
 unfolding handedT handedOut
 handed-is a i [] s w = refl
 handed-is a i (e ∷ es) s w =
-    ap (λ (o : Outcome). handedIn a i e (o .answer) ++ handedT a i es (o .table)) (call-is e s w)
+    ap (λ (o : TableReply). handedIn a i e (o .answer) ++ handedT a i es (o .table)) (call-is e s w)
     ∙ ap (λ (l : List (List ℕ)). handedBy a i e s ++ l) (handed-is a i es (reply e s .state) (kept e s w))
 
 pub demand3-tables : (f : Bool) (es : List Call) (a i : ℕ) (s : ℕ → Range) (h : List Arrival)

@@ -23,7 +23,7 @@ use Rattle.table.specs.Table.{abs, wfb, zeroOff, zeroOn}
 use Rattle.table.specs.Forms.{OffsWf, OnsWf}
 use Rattle.table.proofs.Forms.{offs-form, ons-form}
 use Rattle.calls.specs.declared.Held.{Held}
-use Rattle.calls.specs.Calls.{Outcome, heldOf, holdsOf}
+use Rattle.calls.specs.Calls.{TableReply, heldOf, holdsOf}
 use Rattle.calls.proofs.Called.{called-refused, called-granted}
 
 -- ---- one channel after the other
@@ -81,13 +81,13 @@ held-as t h a b p q = let x = sym p in let y = sym q in λ i. x i || y i
 module _ (t : Table) (h : ℕ) (x : Bool) (e : x ≡ wfb t) where
   pub held-refused : not x ≡ true → _≡_ {A = Held} (record { code = 1; held = 0 }) (holdsOf t h)
   unfolding holdsOf
-  held-refused n = ap (λ (o : Outcome). heldOf o) (sym (called-refused (holds h) t (sym e ∙ not-true x n)))
+  held-refused n = ap (λ (o : TableReply). heldOf o) (sym (called-refused (holds h) t (sym e ∙ not-true x n)))
 
   held-is : not x ≡ false → (c : Bool) → rust.holds h (abs t .protocol) ≡ c → _≡_ {A = Held} (record { code = 0; held = cond c 1 0 }) (holdsOf t h)
   unfolding holdsOf reply
   held-is n c q =
       let y = sym q in
-      (λ i. record { code = 0; held = cond (y i) 1 0 }) ∙ ap (λ (o : Outcome). heldOf o) (sym (called-granted (holds h) t (sym e ∙ not-false x n)))
+      (λ i. record { code = 0; held = cond (y i) 1 0 }) ∙ ap (λ (o : TableReply). heldOf o) (sym (called-granted (holds h) t (sym e ∙ not-false x n)))
 
   pub held-off : (a : Bool) → not x ≡ false → a ≡ has (holdsOff h) (map absOff (take (t .offcount) (t .offs))) → a ≡ true → _≡_ {A = Held} (record { code = 0; held = 1 }) (holdsOf t h)
   held-off a n p q = held-is n true (held-as t h true (has (holdsOn h) (map absOn (take (t .oncount) (t .ons)))) (sym q ∙ p) refl)

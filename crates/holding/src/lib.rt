@@ -46,7 +46,7 @@ fn ons_hold(l: [OnChannel; 8], n: usize, handle: u32) -> bool
 pub fn holds(t: Table, handle: u32) -> Held
     ensures { λ r. ⌜ r ≡ holdsOf t handle ⌝ }
 {
-    if !table::well_formed(t) {
+    if !table_test::well_formed(t) {
         return Held { code: 1, held: 0 };
     }
     let a = t.offs;

@@ -21,9 +21,11 @@ use Rattle.model.specs.Record.{Outcome, granted, rejected, farFragment, bareRun
 use Rattle.model.specs.Room.{fitsOn}
 use Rattle.model.specs.Rust.{forwarded, forwardOff, forwardOn, firstVersion}
 use Rattle.model.specs.Wellformed.{packetGood, rising, consecutive, keyGood, dataGood, onGood}
+use Rattle.model.proofs.Room.{OnFits, fits-on-facts}
+use Rattle.model.proofs.Wellformed.{DataGood, data-facts, data-test}
 use Rattle.kept.proofs.Reorder.{add-legal, Side, side-reorder, side-regroup, side-out, side-rising, side-consecutive, below-legal}
-use Rattle.kept.proofs.Data.{DataGood, data-facts, data-test, data-new, data-later, data-bundles, acked-on, acked-off, queued-good, LegalRange, StoredGood, added-good, forwarded-good}
-use Rattle.kept.proofs.Room.{OnFits, fits-on-facts, acked-on-fits}
+use Rattle.kept.proofs.Data.{data-new, data-later, data-bundles, acked-on, acked-off, queued-good, LegalRange, StoredGood, added-good, forwarded-good}
+use Rattle.kept.proofs.Room.{acked-on-fits}
 
 -- ---- the test as facts
 

@@ -13,7 +13,7 @@ use Rattle.lists.specs.Pad.{allb}
 use Rattle.lists.specs.Find.{has, putBy, removeFirst, swapRemoveFirst}
 use Rattle.lists.proofs.Pad.{and-left, and-right}
 use Rattle.lists.proofs.Find.{allb-put, put-new, find-key}
-use Rattle.lists.proofs.Tests.{and-both, and-4, and-5, eqb-turn, allb-tail, allb-none, allb-cons, allb-snoc, allb-weaken, allb-joins, allb-remove, allb-keep, allb-find, allb-swap}
+use Rattle.lists.proofs.Tests.{and-both, and-5, eqb-turn, allb-tail, allb-none, allb-cons, allb-snoc, allb-weaken, allb-joins, allb-remove, allb-keep, allb-find, allb-swap}
 use Rattle.lists.proofs.Maps.{allb-map-so}
 use Rattle.seq.specs.Num.{legal, add, dist, cmp}
 use Rattle.packet.specs.declared.OutEntry.{OutEntry}
@@ -25,27 +25,12 @@ use Rattle.model.specs.Acks.{isGreater, ackCumulative, hasNumber, ackSingles, s
 use Rattle.model.specs.Group.{span, isFirst, newGroup, full, inPlaces, store, stale, Stored, done, beyond, storedIn, present, create, isBeyond, inGroup, groupAt, placed, addInPacket}
 use Rattle.model.specs.Record.{cumulated, ackedOn, ackedOff, queued}
 use Rattle.model.specs.Rust.{cumulatedIn, insertedIf, forwarded, sentEntry, sentEntries, due, markIf, mark, kept, resentData}
-use Rattle.model.specs.Wellformed.{distinct, entryGood, groupGood, sameFirst, dataGood}
+use Rattle.model.specs.Wellformed.{distinct, entryGood, groupGood, sameFirst}
+use Rattle.model.proofs.Wellformed.{DataGood}
 use Rattle.kept.proofs.Distinct.{eqb-alike, apart-none, apart-remove, apart-put}
 use Rattle.kept.proofs.Reorder.{add-legal, allb-inserted}
 
--- ---- the test as facts
-
-pub record DataGood (t : ℕ) (d : OffData) : Type 0 where
-  pub out : allb (entryGood t) (d .out) ≡ true
-  pub acks : allb legal (d .acks) ≡ true
-  pub groups : allb (groupGood t) (d .groups) ≡ true
-  pub apart : distinct sameFirst (d .groups) ≡ true
-
-pub data-facts : (t : ℕ) (d : OffData) → dataGood t d ≡ true → DataGood t d
-unfolding dataGood
-data-facts t d h =
-    let l = and-4 (allb (entryGood t) (d .out)) (allb legal (d .acks)) (allb (groupGood t) (d .groups)) (distinct sameFirst (d .groups)) h in
-    record { out = l .0; acks = l .1; groups = l .2; apart = l .3 }
-
-pub data-test : (t : ℕ) (d : OffData) → DataGood t d → dataGood t d ≡ true
-unfolding dataGood
-data-test t d g = and-both (and-both (and-both (g .out) (g .acks)) (g .groups)) (g .apart)
+-- ---- a new channel
 
 pub data-new : (t : ℕ) → DataGood t noData
 data-new t = record { out = allb-none (entryGood t); acks = allb-none legal; groups = allb-none (groupGood t); apart = apart-none sameFirst }

@@ -24,10 +24,12 @@ use Rattle.model.specs.Calls.{Call, accept, acceptOut, channel, nextBundle, pre
 use Rattle.model.specs.Port.{recordChannel, hasPlace, play, deliveryMade, deliver, onTime, acceptS, outStages, roomOut, judgeOut, forward, acceptOutS, find, channelS, handOut, next, nextOf, nextBundleS, roomSend, send, prepareS, queueIf, wrote, wroteOf, acksWrittenS, resend, takeResendsS, reply}
 use Rattle.model.specs.History.{run}
 use Rattle.model.specs.Wellformed.{good, wellFormed}
-use Rattle.kept.proofs.Data.{DataGood, data-acks, data-bundles, taken-legal}
-use Rattle.kept.proofs.Room.{DataFits, fits-facts, fits-test, acks-fits, popped-fits, taken-short}
+use Rattle.model.proofs.Room.{DataFits, fits-facts, fits-test}
+use Rattle.model.proofs.Wellformed.{DataGood, Good, Well, well-facts, well-test}
+use Rattle.kept.proofs.Data.{data-acks, data-bundles, taken-legal}
+use Rattle.kept.proofs.Room.{acks-fits, popped-fits, taken-short}
 use Rattle.kept.proofs.Channel.{Leaves}
-use Rattle.kept.proofs.Table.{Good, Well, well-facts, well-test, well-later, well-numbers, well-resent, well-new}
+use Rattle.kept.proofs.Table.{well-later, well-numbers, well-resent, well-new}
 use Rattle.kept.proofs.Record.{EachStage, left-has, At, played, well-channel, forwarded-out}
 use Rattle.kept.proofs.Named.{well-made, data-of-good, data-of-fits, well-put, prepared-good}
 

@@ -12,11 +12,13 @@ use Rattle.model.specs.State.{OffData, Protocol, offWith, onWith, withOut, with
 use Rattle.model.specs.Room.{offRoom, onRoom}
 use Rattle.model.specs.Rust.{firstVersion, keyOn, keyOff, madeIf, made, hasIf, hasKey, dataIf, dataOf, putDataIf, putData, sentEntries, allocates, sourceOf, advanced, advancedIf, joinedOut, prepared}
 use Rattle.model.specs.Port.{hasPlace}
+use Rattle.model.proofs.Room.{DataFits, fits-data-facts, fits-on-facts}
+use Rattle.model.proofs.Wellformed.{DataGood, Good, Well}
 use Rattle.kept.proofs.Reorder.{add-legal}
-use Rattle.kept.proofs.Data.{DataGood, sent-good}
-use Rattle.kept.proofs.Room.{DataFits, fits-data-facts, fits-on-facts, off-fits-with, on-fits-with}
+use Rattle.kept.proofs.Data.{sent-good}
+use Rattle.kept.proofs.Room.{off-fits-with, on-fits-with}
 use Rattle.kept.proofs.Channel.{OnGood, on-with, on-source, key-key}
-use Rattle.kept.proofs.Table.{Good, Well, good-numbers, good-put-on, good-put-off, on-at-good, off-at-good, on-at-address, on-at-index, off-at-address, on-at-fits, off-at-fits, well-put-on, well-put-off}
+use Rattle.kept.proofs.Table.{good-numbers, good-put-on, good-put-off, on-at-good, off-at-good, on-at-address, on-at-index, off-at-address, on-at-fits, off-at-fits, well-put-on, well-put-off}
 
 module _ (t : ℕ) (k : Key) (valid : keyMade k ≡ true) where
   key-on : (p : Protocol) → Good t p → isSet (k .on) ≡ true → OnGood t (keyOn k p)

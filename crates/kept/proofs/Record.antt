@@ -11,10 +11,12 @@ use Rattle.model.specs.Record.{Outcome, granted, rejected, farFragment, bareRun
 use Rattle.model.specs.Room.{fits, fitsOn}
 use Rattle.model.specs.Rust.{outcomeMap, keepOn, keepOff, recordOf, acceptRecord, forwardOff, forwardOn, forwardOf, acceptOut}
 use Rattle.model.specs.Port.{recordChannel, recordAcks, recordStages, roomRecord, judgeRecord, hasPlace, placeRecord, madeRecord, recordStep, play}
-use Rattle.kept.proofs.Data.{DataGood, acked-on, acked-off}
-use Rattle.kept.proofs.Room.{fits-facts, fits-data-facts, fits-on-facts, off-fits-with, on-fits-with, acked-on-fits, acked-off-fits}
+use Rattle.model.proofs.Room.{fits-facts, fits-data-facts, fits-on-facts}
+use Rattle.model.proofs.Wellformed.{DataGood, Good, Well}
+use Rattle.kept.proofs.Data.{acked-on, acked-off}
+use Rattle.kept.proofs.Room.{off-fits-with, on-fits-with, acked-on-fits, acked-off-fits}
 use Rattle.kept.proofs.Channel.{OnGood, on-with, record-key, Leaves, on-record, off-record, forward-off, forward-on}
-use Rattle.kept.proofs.Table.{Good, Well, good-numbers, well-numbers, good-put-on, good-put-off, on-at-good, off-at-good, on-at-address, on-at-index, off-at-address, on-at-fits, off-at-fits, well-put-on, well-put-off}
+use Rattle.kept.proofs.Table.{good-numbers, well-numbers, good-put-on, good-put-off, on-at-good, off-at-good, on-at-address, on-at-index, off-at-address, on-at-fits, off-at-fits, well-put-on, well-put-off}
 
 -- ---- what a refusal leaves
 

@@ -1,4 +1,4 @@
--- A table is well formed: as facts, at a later time, and with one channel new. Assumes nothing.
+-- A table is well formed: at a later time, and with one channel new. Assumes nothing.
 use mathlib.Core.Path.{_≡_, refl, sym, _∙_}
 use mathlib.Core.Bool.{Bool, true, false, _&&_, _||_}
 use Prim.Native.Nat.{ℕ, _≤_}
@@ -6,53 +6,22 @@ use native.Mathlib.Omega.{arith}
 use lib.Dec.{leb, eqb}
 use lib.ListN.{length, length-map}
 use borrow.Author.Tests.{leb-true, eqb-true, eq-eqb}
-use Rattle.lists.specs.Pad.{allb}
 use Rattle.lists.proofs.Pad.{never, and-left, and-right}
 use Rattle.lists.proofs.Find.{allb-put, length-put-le, find-key}
-use Rattle.lists.proofs.Tests.{and-both, and-5, eqb-turn, allb-none, allb-weaken, allb-find}
+use Rattle.lists.proofs.Tests.{and-both, eqb-turn, allb-none, allb-weaken, allb-find}
 use Rattle.lists.proofs.Maps.{allb-map-so}
 use Rattle.seq.specs.Num.{legal}
-use Rattle.model.specs.State.{OffChannel, OnChannel, Protocol, State, new, newOff, newOn, isOff, isOn, hasOff, hasOn, offAt, onAt, putOff, putOn}
+use Rattle.model.specs.State.{OffChannel, OnChannel, Protocol, new, newOff, newOn, isOff, isOn, hasOff, hasOn, offAt, onAt, putOff, putOn}
 use Rattle.model.specs.Room.{fitsOff, fitsOn, fits}
 use Rattle.model.specs.Rust.{resentOff, resentOn, resentData, resent}
 use Rattle.model.specs.Port.{hasPlace}
-use Rattle.model.specs.Wellformed.{distinct, keyGood, onGood, offGood, sameOff, sameOn, good, wellFormed}
+use Rattle.model.specs.Wellformed.{keyGood, onGood, offGood, sameOff, sameOn, good}
+use Rattle.model.proofs.Room.{fits-data-facts, fits-on-facts, Fits}
+use Rattle.model.proofs.Wellformed.{DataGood, data-facts, data-test, Good, Well}
 use Rattle.kept.proofs.Distinct.{eqb-alike, apart-none, apart-put, apart-map}
-use Rattle.kept.proofs.Data.{DataGood, data-facts, data-test, data-new, data-later, resent-good}
-use Rattle.kept.proofs.Room.{fits-data-facts, fits-on-facts, Fits, fits-facts, fits-test, off-new-fits, on-new-fits, off-fits-with, on-fits-with, resent-fits}
+use Rattle.kept.proofs.Data.{data-new, data-later, resent-good}
+use Rattle.kept.proofs.Room.{off-new-fits, on-new-fits, off-fits-with, on-fits-with, resent-fits}
 use Rattle.kept.proofs.Channel.{OnGood, on-facts, on-test, on-later, on-with, on-new}
-
--- ---- the test as facts, at time t
-
-pub record Good (t : ℕ) (p : Protocol) : Type 0 where
-  pub offs : allb (offGood t) (p .offs) ≡ true
-  pub ons : allb (onGood t) (p .ons) ≡ true
-  pub apartOffs : distinct sameOff (p .offs) ≡ true
-  pub apartOns : distinct sameOn (p .ons) ≡ true
-  pub source : legal (p .source) ≡ true
-
-pub record Well (t : ℕ) (p : Protocol) : Type 0 where
-  pub fits : Fits p
-  pub good : Good t p
-
-good-facts : (s : State) → good s ≡ true → Good (s .latest) (s .protocol)
-unfolding good
-good-facts s h =
-    let p = s .protocol in
-    let l = and-5 (allb (offGood (s .latest)) (p .offs)) (allb (onGood (s .latest)) (p .ons)) (distinct sameOff (p .offs)) (distinct sameOn (p .ons)) (legal (p .source)) h in
-    record { offs = l .0; ons = l .1; apartOffs = l .2; apartOns = l .3; source = l .4 }
-
-good-test : (s : State) → Good (s .latest) (s .protocol) → good s ≡ true
-unfolding good
-good-test s g = and-both (and-both (and-both (and-both (g .offs) (g .ons)) (g .apartOffs)) (g .apartOns)) (g .source)
-
-pub well-facts : (s : State) → wellFormed s ≡ true → Well (s .latest) (s .protocol)
-unfolding wellFormed
-well-facts s h = record { fits = fits-facts (s .protocol) (and-left (fits (s .protocol)) (good s) h); good = good-facts s (and-right (fits (s .protocol)) (good s) h) }
-
-pub well-test : (s : State) → Well (s .latest) (s .protocol) → wellFormed s ≡ true
-unfolding wellFormed
-well-test s w = and-both (fits-test (s .protocol) (w .fits)) (good-test s (w .good))
 
 -- ---- a later time, other numbers
 

@@ -2,7 +2,6 @@
 use answers::Stepped;
 use held::State;
 use reading::Kind;
-ghost use mathlib.Core.Path.{_≡_};
 ghost use Prim.Native.Nat.{_+_, _≤_};
 ghost use lib.ListN.{length};
 ghost use Rattle.answers.specs.Answers as Answers;

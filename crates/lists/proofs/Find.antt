@@ -3,7 +3,7 @@
 use mathlib.Core.Path.{_≡_, refl, ap}
 use mathlib.Core.List.{List, [], _∷_, _++_, map}
 use Prim.Native.Nat.{ℕ, zero, suc, _≤_, zero-le, suc-le-suc}
-use mathlib.Core.Bool.{Bool, true, false, _&&_, cond, _||_}
+use mathlib.Core.Bool.{Bool, true, false, _&&_, cond, _||_, and-true}
 use native.Mathlib.Omega.{arith}
 use borrow.Author.Tests.{leb-true, le-leb}
 use lib.Dec.{leb}
@@ -93,11 +93,7 @@ module _ {A : Type 0} where
   -- where all pass a test, all do after one that passes it was put
   pub allb-put : (g f : A → Bool) (e : A) (xs : List A) → allb g xs ≡ true → allb g (putBy f e xs) ≡ g e
   unfolding allb putBy
-  allb-put g f e [] h = at (g e)
-    where
-      at : (t : Bool) → (t && true) ≡ t
-      at true = refl
-      at false = refl
+  allb-put g f e [] h = and-true (g e)
   allb-put g f e (x ∷ xs) h = at (f x) (g x) refl h (λ q. allb-put g f e xs q)
     where
       one : (t : Bool) → allb g xs ≡ true → (t && allb g xs) ≡ t

@@ -2,7 +2,7 @@
 use mathlib.Core.Path.{_≡_, refl, sym, ap, _∙_}
 use mathlib.Core.List.{List, [], _∷_, _++_, append-nil}
 use Prim.Native.Nat.{ℕ, zero, suc, _+_, _-_, _≤_, _<_, zero-le}
-use mathlib.Core.Bool.{Bool, true, false, _&&_, cond, _||_, and-true, and-assoc, or-false, or-assoc}
+use mathlib.Core.Bool.{Bool, true, false, not, _&&_, cond, _||_, and-true, and-assoc, or-false, or-assoc}
 use native.Mathlib.Nat.{le-of-suc-le-suc, not-suc-le-zero, sub-zero}
 use native.Mathlib.Omega.{arith}
 use native.Mathlib.Numerals.{add-one}
@@ -11,8 +11,9 @@ use lib.Seq.{drop-cons, take-all, getD-take, length-take-le, drop-nil, take-nil}
 use Rattle.lists.specs.Pad.{allb}
 use Rattle.lists.specs.Find.{has, keepBy, slotOf}
 use mathlib.Core.Logic.{_⊎_, inl, inr}
-use borrow.Author.Tests.{ltb-true, ltb-false, lt-ltb, le-ltb}
+use borrow.Author.Tests.{ltb-true, ltb-false, lt-ltb, le-ltb, not-true, not-false}
 use lib.Dec.{ltb}
+use Rattle.lists.proofs.Pad.{allb-hit, allb-step, allb-end}
 use Rattle.lists.proofs.Tests.{either-way}
 use Rattle.lists.proofs.Find.{keep-append}
 use Rattle.lists.proofs.Positions.{drop-here, drop-more, slot-cons, slot-nil, take-more}
@@ -87,6 +88,29 @@ module _ {A : Type 0} (f : A → Bool) (z : A) (room : ℕ) (a : List A) (n : �
   asking-end i w h =
       let l : length (take n a) ≡ n = length-take-le n a (omega (arith, w .places, w .below)) in
       sym (w .rest) ∙ ap (λ (m : List A). has f m) (drop-of-length-le (take n a) {i = i} (omega arith))
+
+-- ---- the loop that stops at the first of an array's N places that fails
+
+-- those before place i pass: what is left of the test is the whole test
+pub record Passing {A : Type 0} (f : A → Bool) (N : ℕ) (l : List A) (whole : Bool) (i : ℕ) : Type 0 where
+  pub below : i ≤ N
+  pub size : length l ≡ N
+  pub rest : allb f (drop i l) ≡ whole
+
+module _ {A : Type 0} (f : A → Bool) (N : ℕ) (l : List A) where
+  pub passing-start : length l ≡ N → Passing f N l (allb f l) 0
+  passing-start h = record { below = omega arith; size = h; rest = refl }
+
+  module _ (whole : Bool) (i : ℕ) (s : Passing f N l whole i) where
+    pub passing-hit : (b : Bool) (d : A) → i < N → b ≡ f (getD l i d) → not b ≡ true → false ≡ whole
+    passing-hit b d h e q = sym (allb-hit f d l i (omega (arith, s .size)) (sym e ∙ not-true b q)) ∙ s .rest
+
+    pub passing-step : (b : Bool) (d : A) → i < N → b ≡ f (getD l i d) → not b ≡ false → Passing f N l whole (i + 1)
+    passing-step b d h e q =
+        record { below = omega arith; size = s .size; rest = allb-step f d l i (omega (arith, s .size)) (sym e ∙ not-false b q) ∙ s .rest }
+
+    pub passing-end : N ≤ i → true ≡ whole
+    passing-end h = sym (allb-end f l i (omega (arith, s .size))) ∙ s .rest
 
 module _ {A : Type 0} where
   -- ---- all places of an array tested: f of those below n, g of those from n on

@@ -165,23 +165,22 @@ unfoldable pub prepared : ℕ → Key → Bool → List ℕ → Protocol → Pro
 prepared t k reliable hs s =
     joinedOut reliable (sentEntries t (sourceOf (isSet (k .on)) reliable k s) hs) k (advancedIf (allocates reliable hs) reliable hs k s)
 
-abbrev pub onAnswer : Bool → Bool → ℕ → Key → Protocol → Prepared
-onAnswer true allocated n k s =
+-- what is answered, from the channel's view and the prefix offset
+abbrev pub answerOf : View → ℕ → Bool → ℕ → Prepared
+answerOf v offset allocated n =
     record {
       allocated = cond allocated 1 0;
       first = cond allocated n 0;
-      on = 1;
-      expected = keyOn k s .expected;
-      index = keyOn k s .index;
-      version = keyOn k s .version;
-      offset = s .offset;
+      on = v .on;
+      expected = v .expected;
+      index = v .index;
+      version = v .version;
+      offset = offset;
     }
-onAnswer false allocated n k s =
-    record { allocated = cond allocated 1 0; first = cond allocated n 0; on = 0; expected = 0; index = 0; version = 0; offset = s .offset }
 
 -- "Answers the first number (none where nothing was allocated), expected number and index if on, prefix offset"
 unfoldable pub preparedAnswer : Key → Bool → List ℕ → Protocol → Prepared
-preparedAnswer k reliable hs s = onAnswer (isSet (k .on)) (allocates reliable hs) (sourceOf (isSet (k .on)) reliable k s) k s
+preparedAnswer k reliable hs s = answerOf (keyView k s) (s .offset) (allocates reliable hs) (sourceOf (isSet (k .on)) reliable k s)
 
 -- ---- resends (Rust: take_resends)
 

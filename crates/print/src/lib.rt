@@ -1,7 +1,6 @@
 // What the scenes write on standard output: text, numbers, answers and bundles.
 use bundles::Bundles;
 use libc::STDOUT_FILENO;
-ghost use mathlib.Core.Path.{_≡_};
 ghost use Rattle.bundles.specs.Bundles as Made;
 
 pub fn text(t: &[u8]) {

@@ -21,7 +21,7 @@ use Rattle.table.specs.declared.Table.{Table}
 use Rattle.table.specs.Table.{abs, repr, wfb}
 use Rattle.calls.specs.declared.Batch.{Batch}
 use Rattle.calls.specs.Calls as Calls
-use Rattle.calls.specs.Calls.{Outcome, tableReply, calledIf, called, recordsOf, deliveredOf, poppedOf, accepted, nextLent}
+use Rattle.calls.specs.Calls.{TableReply, tableReply, calledIf, called, recordsOf, deliveredOf, poppedOf, accepted, nextLent}
 use Rattle.reading.specs.declared.Kind.{Kind}
 use Rattle.reading.specs.declared.Kind.the-variants.{In, Pig, Pop, Bad, BadIn}
 use Rattle.reading.specs.declared.Line.{Line}
@@ -32,7 +32,7 @@ use Rattle.held.specs.Held.{noneHeld, start, added}
 use Rattle.answers.specs.Answers.{Answered, answered, deliveryText, afterDelivery, afterIn, places, popText, afterPop}
 use Rattle.lines.specs.Lines.{byKind, stepOf}
 use Rattle.script.specs.Input.{cutOf, answers, unfinished, runFrom, read, runOf}
-use Rattle.delivery.proofs.Numbers.{number-some}
+use Rattle.tally.proofs.Numbers.{number-some}
 use Rattle.held.proofs.Held.{held-more, held-over}
 use Rattle.script.specs.Plain.{Plain, plain, answerText, plainKind, plainStep, plainAnswers, plainRun}
 
@@ -115,7 +115,7 @@ accepted-is t time a hs = ap deliveredOf (same (ltb (length hs) 9) refl)
 
 -- ---- the texts of the answers
 
-abbrev outcome : Answer → Table → Outcome
+abbrev outcome : Answer → Table → TableReply
 outcome x u = record { answer = x; table = u }
 
 result-text : (q : Result) (n : ℕ) (u : Table) → deliveryText (deliveredOf (outcome (deliveryAnswer q n) u)) ≡ answerText (deliveryAnswer q n)

@@ -9,7 +9,7 @@ use Rattle.model.specs.Refusals.{number}
 use Rattle.model.specs.Calls.{accept, nextBundle, Answer, refused, delivered, undelivered, found, noBundle, bundle, prepared, done, resends, held, prefixIs}
 use Rattle.table.specs.declared.Table.{Table}
 use Rattle.table.specs.Table.{repr}
-use Rattle.calls.specs.Calls.{Outcome, called}
+use Rattle.calls.specs.Calls.{TableReply, called}
 use Rattle.reading.specs.declared.Kind.{Kind}
 use Rattle.reading.specs.declared.Kind.the-variants.{In, Pig, Pop, Bad, BadIn}
 use Rattle.reading.specs.declared.Line.{Line}
@@ -47,7 +47,7 @@ answerText (resends xs) = []
 answerText (held b) = []
 answerText (prefixIs p) = []
 
-abbrev pub afterCall : Outcome → List Record → Said
+abbrev pub afterCall : TableReply → List Record → Said
 afterCall o hs = say (plain (o .table) hs) (answerText (o .answer))
 
 -- "`pig P` and the same fields holds a record for the next `in`, whose time and address it shares, and prints nothing; an `in`, `bad`

@@ -20,7 +20,7 @@ use Rattle.packet.specs.declared.OutEntry.{OutEntry}
 use Rattle.packet.specs.Data.{isFlag, keyIndex, keyMade}
 use Rattle.model.specs.State as model
 use Rattle.model.specs.Refusals.{outOfRange, timeBelow, channelAbsent, overLimit}
-use Rattle.model.specs.Rust.{firstVersion, keyOn, keyOff, hasKey, sentEntries, viewIf, keyView}
+use Rattle.model.specs.Rust.{firstVersion, keyOn, keyOff, hasKey, sentEntries, viewIf, keyView, answerOf}
 use Rattle.model.specs.Calls as calls
 use Rattle.model.specs.Port.{Reply, asked, timed, refuse, prepareS, reply}
 use Rattle.kept.proofs.Table.{on-at-address, on-at-index, off-at-address}
@@ -32,20 +32,20 @@ use Rattle.channel.specs.declared.OnChannel.{OnChannel}
 use Rattle.channel.specs.Channel.{absOff, reprOff, absOn, reprOn}
 use Rattle.table.specs.declared.Table.{Table}
 use Rattle.table.specs.Table.{abs, repr, timeSet, Wf, wfb}
-use Rattle.table.proofs.Laws.{onPlace, offPlace, storeOn, storeOff}
+use Rattle.table.proofs.Laws.{storeOn, storeOff}
 use Rattle.table.proofs.Places.{few-offs, few-ons, on-wf-at, off-wf-at}
 use Rattle.table.proofs.Outside.{outsideOff, outsideOn}
 use Rattle.calls.specs.declared.Handles.{Handles}
 use Rattle.calls.specs.declared.Sent.{Sent}
-use Rattle.calls.specs.Places.{placeOn, placeOff}
-use Rattle.calls.specs.Calls.{Outcome, tableReply, sentOf, handlesOf, preparedBy}
+use Rattle.table.specs.Places.{placeOn, placeOff}
+use Rattle.calls.specs.Calls.{TableReply, tableReply, sentOf, handlesOf, preparedBy}
 use Rattle.calls.proofs.Called.{called-refused, called-granted, tested, key-placed, keyPlaceOn, keyPlaceOff, on-limit, off-limit, on-index, off-index, on-key-there, on-key-absent, on-key-fits, off-key-there, off-key-absent, off-key-fits, on-store, off-store, on-standing, on-standing-abs, on-standing-below, off-standing, off-standing-abs, off-standing-below}
 use Rattle.calls.proofs.Timed.{set-form, on-time, wf-room}
 use Rattle.calls.specs.Answers.{noPrepared}
 use Rattle.sent.specs.declared.Left.{Left}
 use Rattle.sent.specs.declared.OffSent.{OffSent}
 use Rattle.sent.specs.declared.OnSent.{OnSent}
-use Rattle.sent.specs.Sent.{answerOf, stoppedLeft, looseIf, looseLeft, onNew, offNew, onSends, offSends, onSentOf, offSentOf}
+use Rattle.sent.specs.Sent.{stoppedLeft, looseIf, looseLeft, onNew, offNew, onSends, offSends, onSentOf, offSentOf}
 use Rattle.sent.proofs.Added.{length-sent}
 use Rattle.send.specs.Send.{sendCode, unsentLeft, sentIn}
 use Rattle.send.proofs.Sent.{loosed, onEntries, onSent, offEntries, offSent, moved, sent-malformed, sent-late, sent-absent, sent-loose, sent-on, sent-on-over, sent-off, sent-off-over}
@@ -216,7 +216,7 @@ module _ (t : Table) (time : ℕ) (k : Key) (reliable : ℕ) (h : Handles) (i at
         let here = on-standing t w k i at ki p b d in
         let n : next ≡ add (m .source) (length (handlesOf h)) = g ∙ (λ j. add (on-is j .source) (count-is t time k reliable h w a l j)) in
         let es : all ≡ out.repr entries = f ∙ ap out.repr on-joined in
-        let x : onPlace (m .address) (m .index) s ≡ keyPlaceOn k s = λ j. onPlace (on-at-address (k .address) (keyIndex k) (firstVersion k) (s .protocol) j) (on-at-index (k .address) (keyIndex k) (firstVersion k) (s .protocol) j) s in
+        let x : placeOn (m .address) (m .index) s ≡ keyPlaceOn k s = λ j. placeOn (on-at-address (k .address) (keyIndex k) (firstVersion k) (s .protocol) j) (on-at-index (k .address) (keyIndex k) (firstVersion k) (s .protocol) j) s in
         (λ j. storeOn (timeSet time t) (t .oncount) (key j) (onNew (here j) (n j) (es j)))
         ∙ ap (λ (j : ℕ). storeOn (timeSet time t) (t .oncount) j (reprOn (onSent time k reliable (handlesOf h) s))) (sym x)
         ∙ on-store (model.withTime time s) (timeSet time t) (set-form time t w) (few-ons t w) (onSent time k reliable (handlesOf h) s) (omega (arith, x, key))
@@ -313,7 +313,7 @@ module _ (t : Table) (time : ℕ) (k : Key) (reliable : ℕ) (h : Handles) (at :
         let here = off-standing t w k at p b d in
         let n : next ≡ add (s .protocol .source) (length (handlesOf h)) = g ∙ (λ j. add (source-is t j) (count-is t time k reliable h w a l j)) in
         let es : all ≡ out.repr joins = f ∙ ap out.repr off-joined in
-        let x : offPlace (m .address) s ≡ keyPlaceOff k s = ap (λ (y : ℕ). offPlace y s) (off-at-address (k .address) (s .protocol)) in
+        let x : placeOff (m .address) s ≡ keyPlaceOff k s = ap (λ (y : ℕ). placeOff y s) (off-at-address (k .address) (s .protocol)) in
         (λ j. storeOff (sourced next (timeSet time t)) (t .offcount) (p j) (offNew (here j) (es j)))
         ∙ ap (λ (j : ℕ). storeOff (sourced next (timeSet time t)) (t .offcount) j (reprOff (offSent time k reliable (handlesOf h) s))) (sym x)
         ∙ off-store
@@ -366,12 +366,12 @@ module _ (t : Table) (time : ℕ) (k : Key) (reliable : ℕ) (h : Handles) (at :
 
 prepare-unformed : (t : Table) (time : ℕ) (k : Key) (reliable : ℕ) (h : Handles) (b : Bool) (s : Sent) → b ≡ wfb t → not b ≡ true → s ≡ refusedBy t 1 → s ≡ preparedBy t time k reliable h
 unfolding preparedBy
-prepare-unformed t time k reliable h b s e n q = q ∙ ap (λ (o : Outcome). sentOf o) (sym (called-refused (calls.prepare time k reliable (handlesOf h)) t (sym e ∙ not-true b n)))
+prepare-unformed t time k reliable h b s e n q = q ∙ ap (λ (o : TableReply). sentOf o) (sym (called-refused (calls.prepare time k reliable (handlesOf h)) t (sym e ∙ not-true b n)))
 
 -- past 1 the call is the model's
 prepare-formed : (t : Table) (time : ℕ) (k : Key) (reliable : ℕ) (h : Handles) (b : Bool) → b ≡ wfb t → not b ≡ false → sentIn t time k reliable h ≡ preparedBy t time k reliable h
 unfolding preparedBy sentIn reply
-prepare-formed t time k reliable h b e n = ap (λ (o : Outcome). sentOf o) (sym (called-granted (calls.prepare time k reliable (handlesOf h)) t (sym e ∙ not-false b n)))
+prepare-formed t time k reliable h b e n = ap (λ (o : TableReply). sentOf o) (sym (called-granted (calls.prepare time k reliable (handlesOf h)) t (sym e ∙ not-false b n)))
 
 module _ (t : Table) (time : ℕ) (k : Key) (reliable : ℕ) (h : Handles) (b : Bool) (s : Sent) (e : b ≡ wfb t) (n : not b ≡ false) where
   prepare-is : s ≡ sentIn t time k reliable h → s ≡ preparedBy t time k reliable h

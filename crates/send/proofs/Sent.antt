@@ -1,43 +1,29 @@
 -- Send, by its channel alone: the model's reply on the whole state is the channel with its new entries and the source moved on, put back
 -- at the new time. Assumes nothing.
 use mathlib.Core.Path.{_≡_, refl, ap, sym, _∙_}
-use mathlib.Core.Bool.{Bool, true, false, _&&_}
+use mathlib.Core.Bool.{Bool, true, false}
 use mathlib.Core.List.{List, _++_}
 use Prim.Native.Nat.{ℕ}
-use borrow.Author.Tests.{eq-eqb, ne-eqb, le-leb}
+use borrow.Author.Tests.{eq-eqb, ne-eqb}
 use lib.Dec.{leb, ltb}
 use lib.ListN.{length}
-use Rattle.lists.specs.Find.{joined}
 use Rattle.lists.proofs.Find.{put-put}
 use Rattle.lists.proofs.Tests.{or-left}
 use Rattle.seq.specs.Num.{add}
 use Rattle.packet.specs.declared.Key.{Key}
 use Rattle.packet.specs.declared.OutEntry.{OutEntry}
 use Rattle.packet.specs.Data.{isSet, keyIndex}
-use Rattle.model.specs.State.{OffData, OffChannel, OnChannel, Protocol, State, withOut, offWith, onWith, withSource, withShared, withTime, withProtocol, isOn, hasOn, hasOff, putOff, putOn}
+use Rattle.model.specs.State.{OffChannel, OnChannel, Protocol, State, withOut, offWith, onWith, withSource, withShared, withTime, withProtocol, isOn, hasOn, hasOff, putOff, putOn}
 use Rattle.model.specs.Refusals.{outOfRange, timeBelow, channelAbsent, overLimit}
-use Rattle.model.specs.Room.{fitsData, fitsOff, fitsOn, fits, onRoom, offRoom}
+use Rattle.model.specs.Room.{fitsOff, fitsOn, fits, onRoom, offRoom}
 use Rattle.model.specs.Rust as rust
-use Rattle.model.specs.Rust.{firstVersion, keyOn, keyOff, hasKey, sentEntries, keyView}
+use Rattle.model.specs.Rust.{firstVersion, keyOn, keyOff, hasKey, sentEntries, keyView, answerOf}
 use Rattle.model.specs.Calls as calls
 use Rattle.model.specs.Port.{asked, timed, refuse, grant, roomSend, send, onTime, prepareS}
+use Rattle.model.proofs.Room.{fits-data-facts, fits-on-facts, out-room, out-room-on}
 use Rattle.kept.proofs.Table.{on-at-address, on-at-index, off-at-address}
-use Rattle.channel.proofs.Laws as channel
 use Rattle.calls.proofs.Called.{on-found, on-key-has, off-key-has}
 use Rattle.calls.proofs.Room.{fits-put-on, fits-put-off}
-use Rattle.sent.specs.Sent.{answerOf}
-
--- ---- a channel's room, where its out list is new
-
-out-room : (d : OffData) (l : List OutEntry) → fitsData d ≡ true → fitsData (withOut l d) ≡ leb (length l) 32
-unfolding fitsData
-out-room d l h =
-    let f = channel.fits-parts d h in
-    rw (le-leb (length (d .acks)) 64 (f .acks), le-leb (length (d .groups)) 4 (f .groups), f .each, le-leb (length (d .bundles)) 16 (f .bundles), le-leb (length (joined (d .bundles))) 64 (f .handles)) (at (leb (length l) 32))
-  where
-    at : (b : Bool) → b && true && true && true && true && true ≡ b
-    at true = refl
-    at false = refl
 
 -- ---- the tests in front: 2, 3, 13
 
@@ -65,12 +51,7 @@ module _ (t : ℕ) (k : Key) (reliable : ℕ) (hs : List ℕ) (s : State) where
   -- the state, and the answer from the channel's view
   answer-is : (r : Bool) → rust.preparedAnswer k r hs (s .protocol) ≡ answerOf (keyView k (s .protocol)) (s .protocol .offset) (rust.allocates r hs) (rust.sourceOf (isSet (k .on)) r k (s .protocol))
   unfolding rust.preparedAnswer
-  answer-is r = at (isSet (k .on))
-    where
-      at : (on : Bool) → rust.onAnswer on (rust.allocates r hs) (rust.sourceOf on r k (s .protocol)) k (s .protocol)
-          ≡ answerOf (rust.viewIf on (k .address) (keyIndex k) (firstVersion k) (s .protocol)) (s .protocol .offset) (rust.allocates r hs) (rust.sourceOf on r k (s .protocol))
-      at true = refl
-      at false = refl
+  answer-is r = refl
 
   -- granted, with the state p, the answer's number n and the view v
   granted : (r : Bool) (p : Protocol) (n : ℕ) → made ≡ true → onTime t s ≡ true → hasKey k (s .protocol) ≡ true → isSet reliable ≡ r → rust.prepared t k r hs (s .protocol) ≡ p → fits p ≡ true
@@ -157,11 +138,8 @@ module _ (t : ℕ) (k : Key) (reliable : ℕ) (hs : List ℕ) (s : State) where
   on-fits : fitsOn (keyOn k (s .protocol)) ≡ true → fitsOn onSent ≡ leb (length onEntries) 32
   on-fits f =
       let c = keyOn k (s .protocol) in
-      rw (out-room (c .off) onEntries (channel.on-data c f), le-leb (length (c .buffer)) 32 (channel.on-buffer c f), le-leb (length (c .queue)) 32 (channel.on-queue c f)) (at (leb (length onEntries) 32))
-    where
-      at : (b : Bool) → b && true && true ≡ b
-      at true = refl
-      at false = refl
+      let g = fits-on-facts c f in
+      out-room-on (c .off) c onEntries (g .common) g
 
   on-judged : (b : Bool) → fits (s .protocol) ≡ true → fitsOn (keyOn k (s .protocol)) ≡ true → hasOn (k .address) (keyIndex k) (s .protocol) ≡ true → leb (length onEntries) 32 ≡ b → fits (putOn onSent (s .protocol)) ≡ b
   on-judged b f g h e =
@@ -178,7 +156,7 @@ module _ (t : ℕ) (k : Key) (reliable : ℕ) (hs : List ℕ) (s : State) where
 
   off-judged : (b : Bool) → fits (s .protocol) ≡ true → fitsOff (keyOff k (s .protocol)) ≡ true → hasOff (k .address) (s .protocol) ≡ true → leb (length offEntries) 32 ≡ b → fits (putOff offSent moved) ≡ b
   off-judged b f g h e =
-      fits-put-off moved offSent (loose-fits true f) (or-left (offRoom (s .protocol)) ((λ j. hasOff (off-at-address (k .address) (s .protocol) j) (s .protocol)) ∙ h)) ∙ out-room (keyOff k (s .protocol) .off) offEntries g ∙ e
+      fits-put-off moved offSent (loose-fits true f) (or-left (offRoom (s .protocol)) ((λ j. hasOff (off-at-address (k .address) (s .protocol) j) (s .protocol)) ∙ h)) ∙ out-room (keyOff k (s .protocol) .off) offEntries (fits-data-facts (keyOff k (s .protocol) .off) g) ∙ e
 
   -- ---- the replies
 

@@ -58,7 +58,7 @@ fn front(good: bool, latest: u64, source: u32, time: u64, k: Key, reliable: u32,
 pub fn prepare(t: Table, time: u64, k: Key, reliable: u32, h: Handles) -> Sent
     ensures { λ s. ⌜ s ≡ preparedBy t time k reliable h ⌝ }
 {
-    let good = table::well_formed(t);
+    let good = table_test::well_formed(t);
     let mut a = front(good, t.latest, t.source, time, k, reliable, h.count);
     let mut u = t;
     if a.code == 0 {

@@ -11,8 +11,8 @@ use lib.Seq.{drop-cons, getD-take, getD-drop, length-take-le}
 use borrow.Author.Tests.{lt-ltb, le-ltb, le-leb, lt-leb, eq-eqb, ne-eqb, not-true, not-false}
 use Rattle.lists.specs.Pad.{allb}
 use Rattle.lists.specs.Find.{has}
-use Rattle.lists.proofs.Pad.{pad-nil, length-insertAt, Opening, opening-start, opening-end, allb-hit, allb-step, allb-end}
-use Rattle.lists.proofs.Looking.{Asking, asking-start, asking-hit, asking-step, asking-end}
+use Rattle.lists.proofs.Pad.{pad-nil, length-insertAt, Opening, opening-start, opening-end}
+use Rattle.lists.proofs.Looking.{Asking, asking-start, asking-hit, asking-step, asking-end, Passing}
 use Rattle.lists.proofs.Copies.{insert-parts, Copying, copying-start, copying-step, copying-end}
 use Rattle.seq.specs.declared.Order.{Order}
 use Rattle.seq.specs.declared.Order.the-variants.{Less, Equal, Greater}
@@ -153,24 +153,9 @@ pub kept-long : (w : Waiting) → 32 < w .len → false ≡ kept w
 unfolding kept
 kept-long w h = rw (lt-leb _ _ h, and-false)
 
--- the test from place i on is the test
-pub record Testing (w : Waiting) (i : ℕ) : Type 0 where
-  pub below : i ≤ 32
-  pub size : length (w .packets) ≡ 32
-  pub rest : allb isNone (drop i (w .packets)) ≡ kept w
-
-pub test-start : (w : Waiting) → length (w .packets) ≡ 32 → w .len ≤ 32 → Testing w (w .len)
+-- the test from the first unused place on is the test
+pub test-start : (w : Waiting) → length (w .packets) ≡ 32 → w .len ≤ 32 → Passing isNone 32 (w .packets) (kept w) (w .len)
 test-start w l h = record { below = h; size = l; rest = kept-start w l h }
-
-pub test-hit : (w : Waiting) (i : ℕ) (b : Bool) → Testing w i → i < 32 → b ≡ isNone (getD (w .packets) i noPacket) → not b ≡ true → false ≡ kept w
-test-hit w i b t h p q = sym (allb-hit isNone noPacket (w .packets) i (omega arith) (sym p ∙ not-true b q)) ∙ t .rest
-
-pub test-step : (w : Waiting) (i : ℕ) (b : Bool) → Testing w i → i < 32 → b ≡ isNone (getD (w .packets) i noPacket) → not b ≡ false → Testing w (i + 1)
-test-step w i b t h p q =
-    record { below = omega arith; size = t .size; rest = allb-step isNone noPacket (w .packets) i (omega arith) (sym p ∙ not-false b q) ∙ t .rest }
-
-pub test-end : (w : Waiting) (i : ℕ) → Testing w i → 32 ≤ i → true ≡ kept w
-test-end w i t h = sym (allb-end isNone (w .packets) i (omega arith)) ∙ t .rest
 
 -- ---- the test of a packet
 

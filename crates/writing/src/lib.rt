@@ -1,7 +1,6 @@
 // The driver's answers (01, "The driver"), written into a lent buffer from a place on. Each function answers the place after what it
 // wrote; the rest of the buffer keeps its contents.
 use packet::View;
-ghost use mathlib.Core.Path.{_≡_};
 ghost use mathlib.Core.List.{[], _∷_};
 ghost use Prim.Native.Nat.{_+_, _≤_, _<_};
 ghost use lib.ListN.{length, take};

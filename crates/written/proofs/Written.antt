@@ -27,7 +27,7 @@ use Rattle.ack_queue.specs.declared.Taken.{Taken}
 use Rattle.ack_queue.specs.Queue as acks
 use Rattle.channel.specs.declared.OffChannel.{OffChannel}
 use Rattle.channel.specs.declared.OnChannel.{OnChannel}
-use Rattle.channel.proofs.Laws.{fits-parts, on-data}
+use Rattle.model.proofs.Room.{fits-data-facts, fits-on-facts}
 use Rattle.table.specs.declared.Table.{Table}
 use Rattle.table.specs.Table.{abs, repr, Wf, wfb}
 use Rattle.table.proofs.Laws.{storeOn, storeOff}
@@ -35,8 +35,8 @@ use Rattle.table.proofs.Places.{on-wf-at, off-wf-at}
 use Rattle.table.proofs.Outside.{outsideOff, outsideOn}
 use Rattle.calls.specs.declared.Done.{Done}
 use Rattle.calls.specs.declared.Names.{Names}
-use Rattle.calls.specs.Places.{placeOn, placeOff}
-use Rattle.calls.specs.Calls.{Outcome, tableReply, doneOf, namesOf, wroteAcks}
+use Rattle.table.specs.Places.{placeOn, placeOff}
+use Rattle.calls.specs.Calls.{TableReply, tableReply, doneOf, namesOf, wroteAcks}
 use Rattle.calls.proofs.Called.{called-refused, called-granted, tested, key-tested, key-placed, on-index, off-index, on-key-there, on-key-absent, on-key-fits, on-key-data, on-key-store, off-key-there, off-key-absent, off-key-fits, off-key-data, off-key-store, on-standing, on-standing-abs, on-standing-below, off-standing, off-standing-abs, off-standing-below}
 use Rattle.written.specs.Written.{wroteIn, frontCode, absentCode, namesCode}
 
@@ -126,8 +126,8 @@ module _ (t : Table) (k : Key) (n : Names) (w : Wf t) where
     queue-few true = at (isSet (k .on))
       where
         at : (o : Bool) → length (dataIf o k (abs t .protocol) .acks) ≤ 64
-        at true = fits-parts (keyOn k (abs t .protocol) .off) (on-data (keyOn k (abs t .protocol)) (on-key-fits t w k)) .acks
-        at false = fits-parts (keyOff k (abs t .protocol) .off) (off-key-fits t w k) .acks
+        at true = fits-on-facts (keyOn k (abs t .protocol)) (on-key-fits t w k) .common .acks
+        at false = fits-data-facts (keyOff k (abs t .protocol) .off) (off-key-fits t w k) .acks
 
     many-is : 64 < n .count → _≡_ {A = Done} (record { table = t; code = 2 }) (wroteIn t k n)
     many-is h =
@@ -299,12 +299,12 @@ module _ (t : Table) (k : Key) (n : Names) (at : ℕ) (d : OffChannel) (x : Take
 
 written-unformed : (t : Table) (k : Key) (n : Names) → wfb t ≡ false → _≡_ {A = Done} (record { table = t; code = 1 }) (wroteAcks t k n)
 unfolding wroteAcks
-written-unformed t k n h = ap (λ (o : Outcome). doneOf o) (sym (called-refused (acksWritten k (namesOf n)) t h))
+written-unformed t k n h = ap (λ (o : TableReply). doneOf o) (sym (called-refused (acksWritten k (namesOf n)) t h))
 
 -- past 1 the call is the model's
 written-formed : (t : Table) (k : Key) (n : Names) → wfb t ≡ true → wroteIn t k n ≡ wroteAcks t k n
 unfolding wroteAcks wroteIn reply
-written-formed t k n h = ap (λ (o : Outcome). doneOf o) (sym (called-granted (acksWritten k (namesOf n)) t h))
+written-formed t k n h = ap (λ (o : TableReply). doneOf o) (sym (called-granted (acksWritten k (namesOf n)) t h))
 
 pub record Past (t : Table) (k : Key) (n : Names) : Type 0 where
   pub test : wfb t ≡ true

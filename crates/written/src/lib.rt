@@ -62,7 +62,7 @@ fn front_code(good: bool, k: Key, count: u32) -> u32
 pub fn acks_written(t: Table, k: Key, n: Names) -> Done
     ensures { λ d. ⌜ d ≡ wroteAcks t k n ⌝ }
 {
-    let good = table::well_formed(t);
+    let good = table_test::well_formed(t);
     let mut code = front_code(good, k, n.count);
     let mut u = t;
     if code == 0 {

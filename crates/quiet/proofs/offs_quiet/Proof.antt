@@ -1,12 +1,14 @@
 -- The first i channels stay as they are. Assumes nothing.
 use Prim.Native.Nat.{_-_}
+use Rattle.lists.specs.Pad.{allb}
+use Rattle.lists.proofs.Looking.{Passing, passing-hit, passing-step}
 use Rattle.quiet.specs.Quiet.{offCalm}
-use Rattle.quiet.proofs.Calm.{Calming, calming-hit, calming-step, calming}
+use Rattle.quiet.proofs.Calm.{calming}
 use Rattle.quiet.proofs.offs_quiet.Statement.{statement}
 use Rattle.quiet.proofs.offs_quiet.Tie as tie
 
 abbrev Inv-loop : tie.InvT-loop
-Inv-loop time timeout give-up l i₀ i = Calming (offCalm time timeout give-up) 4 l i
+Inv-loop time timeout give-up l i₀ i = Passing (offCalm time timeout give-up) 4 l (allb (offCalm time timeout give-up) l) i
 
 abbrev μ-loop : tie.MeasureT-loop
 μ-loop time timeout give-up l i₀ i = 4 - i
@@ -26,7 +28,7 @@ quiet-requires c κs = search calming
 returns : tie.Need-returns Inv-loop μ-loop
 returns c =
     let s = c .before .before .before .before .before .loop .inv in
-    calming-hit _ _ _ _ s _ _ (c .before .before .before .before .loop-test .taken) (c .before .quiet .ensures) (c .if1 .taken)
+    passing-hit _ _ _ _ _ s _ _ (c .before .before .before .before .loop-test .taken) (c .before .quiet .ensures) (c .if1 .taken)
 
 add-i : tie.Need-add-i Inv-loop μ-loop
 add-i c = search calming
@@ -37,7 +39,7 @@ loop-less c = search calming
 loop-again : tie.Need-loop-again Inv-loop μ-loop
 loop-again c =
     let s = c .before .before .before .before .before .loop .inv in
-    calming-step _ _ _ _ s _ _ (c .before .before .before .before .loop-test .taken) (c .before .quiet .ensures) (c .if1 .left)
+    passing-step _ _ _ _ _ s _ _ (c .before .before .before .before .loop-test .taken) (c .before .quiet .ensures) (c .if1 .left)
 
 returns-2 : tie.Need-returns-2 Inv-loop μ-loop
 returns-2 c = search calming
