@@ -1,4 +1,2 @@
 pub mod One
 pub mod Many
-pub mod Rule
-pub mod Test

@@ -9,10 +9,11 @@ use Rattle.packet.specs.declared.Packet.{Packet}
 use Rattle.bundles.specs.declared.Bundles.{Bundles}
 use Rattle.bundles.specs.Bundles as Made
 use Rattle.fragments.specs.declared.Groups.{Groups}
-use Rattle.fragments.specs.declared.Added.{Added}
+use Rattle.group_rule.specs.declared.Added.{Added}
 use Rattle.fragments.specs.Groups as Parts
 use Rattle.fragments.proofs.Many as PartsForm
-use Rattle.fragments.proofs.Rule.{added-wf}
+use Rattle.group_rule.specs.Rule.{added}
+use Rattle.group_rule.proofs.Rule.{added-wf}
 use Rattle.print.proofs.Fronts.{none-wf, pop-kept}
 use Rattle.group_scenes.specs.Kept.{GroupsKept}
 
@@ -20,7 +21,7 @@ pub groups-new : (g : Groups) (b : Bundles) → g ≡ Parts.repr [] → b ≡ Ma
 unfolding allb
 groups-new g b p q = record { groups = rw p (PartsForm.wf-repr [] zero-le refl); bundles = rw q none-wf }
 
-pub groups-add : (s r : Added) (p : Packet) (t : ℕ) → GroupsKept s → r ≡ Parts.added t p (s .groups) (s .bundles) → GroupsKept r
+pub groups-add : (s r : Added) (p : Packet) (t : ℕ) → GroupsKept s → r ≡ added t p (s .groups) (s .bundles) → GroupsKept r
 groups-add s r p t k e =
     let w = added-wf t p (s .groups) (s .bundles) (k .groups) (k .bundles) in
     rw e (record { groups = w .0; bundles = w .1 })

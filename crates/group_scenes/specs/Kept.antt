@@ -1,7 +1,6 @@
 -- What a scene keeps of the lists it works on.
-use mathlib.Core.Path.{_≡_}
 use Rattle.bundles.specs.Bundles as Made
-use Rattle.fragments.specs.declared.Added.{Added}
+use Rattle.group_rule.specs.declared.Added.{Added}
 use Rattle.fragments.specs.Groups as Groups
 
 pub record GroupsKept (s : Added) : Type 0 where

@@ -1,9 +1,9 @@
 // Short scenes of packets off the reliable path: the groups that wait, and the bundles made. Each starts from a new channel and stands
 // at an edge of 01's rules. A scene writes one line: what was done, and after the colon what came of it.
 use bundles::Bundles;
-use fragments::Added;
 use fragments::Fragments;
 use fragments::Groups;
+use group_rule::Added;
 use packet::Packet;
 ghost use Rattle.group_scenes.specs.Kept.{GroupsKept};
 
@@ -27,7 +27,7 @@ fn add(s: Added, p: Packet, time: u64) -> Added
 {
     let gs = s.groups;
     let b = s.bundles;
-    fragments::add_in_packet(gs, b, p, time)
+    group_rule::add_in_packet(gs, b, p, time)
 }
 
 // A packet without a range.
@@ -340,11 +340,11 @@ fn tested() {
     let gs = s.groups;
     print::test(
         b"a group updated at the latest time:",
-        fragments::well_formed(gs, 5),
+        group_test::well_formed(gs, 5),
     );
     print::test(
         b"a group updated after the latest time:",
-        fragments::well_formed(gs, 4),
+        group_test::well_formed(gs, 4),
     );
     let mut b = Bundles::new();
     b.total = 1;

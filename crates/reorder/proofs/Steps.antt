@@ -28,12 +28,14 @@ use Rattle.waiting.specs.declared.Waiting.{Waiting}
 use Rattle.waiting.specs.Waiting as Waits
 use Rattle.waiting.proofs.Form as WaitsForm
 use Rattle.contiguous.specs.declared.Work.{Work}
-use Rattle.contiguous.specs.declared.Placed.{Placed}
-use Rattle.contiguous.specs.declared.Pop.{Pop}
-use Rattle.contiguous.specs.declared.Pop.the-variants.{Stop, Skip, Take}
 use Rattle.contiguous.specs.Work.{abs, repr, Wf}
-use Rattle.contiguous.specs.Rule.{run, starts, ends, full, placed, told, taken, Popped}
-use Rattle.contiguous.proofs.Form.{wf-len, wf-len-le, abs-repr, wf-repr, moved, move-run}
+use Rattle.contiguous.proofs.Form.{wf-len, wf-len-le, abs-repr, wf-repr}
+use Rattle.placing.specs.declared.Placed.{Placed}
+use Rattle.placing.specs.Rule.{run, starts, ends, full, placed}
+use Rattle.placing.proofs.Moves.{moved, move-run}
+use Rattle.taking.specs.declared.Pop.{Pop}
+use Rattle.taking.specs.declared.Pop.the-variants.{Stop, Skip, Take}
+use Rattle.taking.specs.Front.{told, taken, Popped}
 use Rattle.model.proofs.Grouping.{step-less, group-stop, group-go}
 use Rattle.reorder.specs.declared.Grouping.{Grouping}
 use Rattle.reorder.specs.declared.Reordered.{Reordered}
@@ -375,7 +377,7 @@ module _ (e : ℕ) (b q : Waiting) (bs : Bundles) (p : Packet) (a : Alone e b q 
       let m : length (joined (Made.abs bs ++ x)) ≡ length (joined (Made.abs bs)) + 1 = omega (arith, ap length (joined-append (Made.abs bs) x), length-append (joined (Made.abs bs)) (p .handle ∷ [])) in
       λ i. leb (l i) 16 && leb (m i) 64
 
-  alone-room : (t : Bool) → t ≡ Made.room (Made.abs bs) 1 → within (arrive (stateOf e b q bs) p) ≡ t
+  pub alone-room : (t : Bool) → t ≡ Made.room (Made.abs bs) 1 → within (arrive (stateOf e b q bs) p) ≡ t
   alone-room t h = ap within alone-arrive ∙ alone-within ∙ sym h
 
   pub alone-full : (t : Bool) (r : Reordered) → t ≡ Made.room (Made.abs bs) 1 → not t ≡ true → r ≡ unchanged e b q bs → r ≡ received e b q bs p

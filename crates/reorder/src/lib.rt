@@ -1,10 +1,10 @@
 // A reliable packet's arrival on an on-channel: the reorder rule, and then bundles from the contiguous queue
 // (Rust: OnChannelData::add_in_reliable_packet, then pop_in_reliable_bundle until it answers none).
 use bundles::Bundles;
-use contiguous::Pop;
 use contiguous::Work;
 use packet::Packet;
 use seq::Seq;
+use taking::Pop;
 use waiting::Waiting;
 ghost use mathlib.Core.Path.{_≡_};
 ghost use mathlib.Core.Bool.{true};
@@ -77,7 +77,7 @@ fn pop_in_reliable_bundles(w: Work, old: Bundles) -> Grouping
     let mut made = old;
     let mut at: usize = 0;
     loop {
-        let pop = contiguous::pop_in_reliable_bundle(w, at);
+        let pop = taking::pop_in_reliable_bundle(w, at);
         match pop {
             Pop::Stop => {
                 return ended(w, at, made, old);
@@ -127,7 +127,7 @@ fn add_by_queue(
     requires { ⌜ Made.Wf bundles ⌝ }
     ensures { λ r. ⌜ r ≡ received expected buffer queue bundles p ⌝ }
 {
-    let s = contiguous::place_packet(expected, buffer, queue, p);
+    let s = placing::place_packet(expected, buffer, queue, p);
     if s.fits != 1 {
         return refused(expected, buffer, queue, bundles);
     }

@@ -15,7 +15,7 @@ use Rattle.model.specs.State.{Group, OffData, withOut, withAcks}
 use Rattle.model.specs.Group.{Stored, done, beyond, span, isFirst, full, store, stale, storedIn, present, create, isBeyond, inGroup, groupAt, placed, addInPacket}
 use Rattle.bundles.specs.declared.Bundles.{Bundles}
 use Rattle.fragments.specs.declared.Groups.{Groups}
-use Rattle.fragments.specs.Groups.{dataOf, within, added}
+use Rattle.group_rule.specs.Rule.{dataOf, within, added}
 
 -- what the rule makes of groups and bundles, with the other two lists beside it
 abbrev pub beside : List OutEntry → List ℕ → Stored → Stored

@@ -1,6 +1,6 @@
 -- The room of a channel, by the lists that a rule changes; and which lists grow. Assumes nothing.
-use mathlib.Core.Path.{_≡_, refl, ap, _∙_}
-use mathlib.Core.Bool.{Bool, true, false, _&&_}
+use mathlib.Core.Path.{_≡_, refl, ap}
+use mathlib.Core.Bool.{Bool, true, false, _&&_, and-true}
 use mathlib.Core.List.{List}
 use Prim.Native.Nat.{_≤_, _<_}
 use native.Mathlib.Omega.{arith}
@@ -17,7 +17,7 @@ use Rattle.model.specs.Acks.{ackSingles}
 use Rattle.model.specs.Record.{cumulated, reliableOf}
 use Rattle.model.specs.Room.{fitsGroup, fitsData, fitsOff, fitsOn}
 use Rattle.out_list.proofs.Acks.{length-ackSingles, length-ackCumulative}
-use Rattle.fragments.specs.Groups.{fitsLists}
+use Rattle.group_rule.specs.Rule.{fitsLists}
 use Rattle.reorder.specs.Reorder.{within}
 use Rattle.rules.specs.Rules.{acked}
 
@@ -42,10 +42,6 @@ turn true false false q = refl
 turn false j true true = refl
 turn false j true false = refl
 turn false j false q = refl
-
-two : (t : Bool) → t && true && true ≡ t
-two true = refl
-two false = refl
 
 -- the reliable path changes the ack queue, and what the reorder rule ends in
 pub reliable-room : (x : model.OnChannel) → length (x .off .out) ≤ 32 → length (x .off .acks) ≤ 64 → length (x .off .groups) ≤ 4 → allb fitsGroup (x .off .groups) ≡ true → fitsOn x ≡ within (reliableOf x)
@@ -75,7 +71,7 @@ lists-room d o a = rw (le-leb (length (d .out)) 32 o, le-leb (length (d .acks)) 
 
 pub loose-room-on : (x : model.OnChannel) → length (x .off .out) ≤ 32 → length (x .off .acks) ≤ 64 → length (x .buffer) ≤ 32 → length (x .queue) ≤ 32 → fitsOn x ≡ fitsLists (x .off)
 loose-room-on x o a b q =
-    rw (le-leb (length (x .buffer)) 32 b, le-leb (length (x .queue)) 32 q) (two (fitsData (x .off)) ∙ lists-room (x .off) o a)
+    rw (le-leb (length (x .buffer)) 32 b, le-leb (length (x .queue)) 32 q, and-true (fitsData (x .off) && true), and-true (fitsData (x .off))) (lists-room (x .off) o a)
 
 pub loose-room-off : (x : model.OffChannel) → length (x .off .out) ≤ 32 → length (x .off .acks) ≤ 64 → fitsOff x ≡ fitsLists (x .off)
 loose-room-off x o a = lists-room (x .off) o a

@@ -9,6 +9,7 @@ ghost use Rattle.packet.specs.Data.{wellMade, packet};
 ghost use Rattle.out_list.specs.Out as Out;
 ghost use Rattle.bundles.specs.Bundles as Made;
 ghost use Rattle.fragments.specs.Groups as Frags;
+ghost use Rattle.group_rule.specs.Rule.{added};
 ghost use Rattle.rules.specs.Rules as Spec;
 
 // "Cumulative ack .. On-channel: from the front of the out list remove entries until one where ack compares Less or Equal. Each single
@@ -30,8 +31,8 @@ pub fn acked(o: OutList, r: Record) -> OutList
 pub fn loose_code(groups: Groups, made: Bundles, r: Record, time: u64) -> u32
     requires { ⌜ Frags.Wf groups ⌝ }
     requires { ⌜ Made.Wf made ⌝ }
-    ensures { λ k. ⌜ k ≡ Frags.added time (packet r) groups made .code ⌝ }
+    ensures { λ k. ⌜ k ≡ added time (packet r) groups made .code ⌝ }
 {
     let p = r.packet();
-    fragments::code_of(groups, made, p, time)
+    group_rule::code_of(groups, made, p, time)
 }
