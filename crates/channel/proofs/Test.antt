@@ -8,12 +8,13 @@ use borrow.Author.Tests.{eqb-true}
 use lib.Dec.{eqb}
 use Rattle.lists.specs.Pad.{allb}
 use Rattle.lists.specs.Find.{joined}
-use Rattle.lists.proofs.Pad.{and-left, and-right}
+use Rattle.lists.proofs.Tests.{and-3, and-4, and-5, and-8}
 use Rattle.lists.proofs.Positions.{take-none}
 use Rattle.seq.specs.Num.{legal}
 use Rattle.model.specs.State as model
 use Rattle.model.specs.Room.{fitsData, fitsOff, fitsOn}
-use Rattle.model.specs.Wellformed.{distinct, entryGood, packetGood, groupGood, sameFirst, dataGood, rising, consecutive, keyGood, onGood, offGood}
+use Rattle.model.specs.Wellformed.{distinct, packetGood, dataGood, rising, consecutive, keyGood, onGood, offGood}
+use Rattle.model.proofs.Wellformed.{data-facts, data-test}
 use Rattle.out_list.specs.declared.OutList.{OutList}
 use Rattle.out_list.specs.Out as out
 use Rattle.out_test.specs.Test.{outGood}
@@ -23,7 +24,8 @@ use Rattle.ack_queue.specs.Queue as acks
 use Rattle.ack_queue.proofs.Test.{acksGood-iff}
 use Rattle.fragments.specs.declared.Groups.{Groups}
 use Rattle.fragments.specs.Groups as groups
-use Rattle.fragments.proofs.Test.{groups-iff}
+use Rattle.group_test.specs.Test.{groupsGood}
+use Rattle.group_test.proofs.Test.{groups-iff}
 use Rattle.bundles.specs.declared.Bundles.{Bundles}
 use Rattle.bundles.specs.Bundles as bundles
 use Rattle.bundles.specs.Bundles.{splitBy}
@@ -32,37 +34,16 @@ use Rattle.waiting.specs.Waiting as waiting
 use Rattle.waiting.proofs.Form.{buffer-good, queue-good}
 use Rattle.channel.specs.declared.OffChannel.{OffChannel}
 use Rattle.channel.specs.declared.OnChannel.{OnChannel}
-use Rattle.channel.specs.Channel.{absOff, reprOff, absOn, reprOn, WfOff, WfOn, offTest, numbersGood, onTest, idleOff, idleOn}
+use Rattle.channel.specs.Channel.{absOff, reprOff, absOn, reprOn, WfOff, WfOn, listsGood, offTest, numbersGood, onTest, idleOff, idleOn}
 use Rattle.channel.proofs.Laws.{form-off, form-on, repr-wf-off, repr-wf-on, abs-repr-off, abs-repr-on}
 
 -- ---- what both kinds have
-
-pub record Data (latest : ℕ) (d : model.OffData) : Type 0 where
-  pub out : allb (entryGood latest) (d .out) ≡ true
-  pub acks : allb legal (d .acks) ≡ true
-  pub groups : allb (groupGood latest) (d .groups) ≡ true
-  pub firsts : distinct sameFirst (d .groups) ≡ true
-
-pub data-parts : (latest : ℕ) (d : model.OffData) → dataGood latest d ≡ true → Data latest d
-unfolding dataGood
-data-parts latest d q =
-    let a = allb (entryGood latest) (d .out) in
-    let b = allb legal (d .acks) in
-    let c = allb (groupGood latest) (d .groups) in
-    let e = distinct sameFirst (d .groups) in
-    let q₁ : a && b && c ≡ true = and-left (a && b && c) e q in
-    let q₂ : a && b ≡ true = and-left (a && b) c q₁ in
-    record { out = and-left a b q₂; acks = and-right a b q₂; groups = and-right (a && b) c q₁; firsts = and-right (a && b && c) e q }
-
-pub parts-data : (latest : ℕ) (d : model.OffData) → Data latest d → dataGood latest d ≡ true
-unfolding dataGood
-parts-data latest d p = rw (p .out, p .acks, p .groups, p .firsts)
 
 -- the four lists pass their tests
 record Lists (latest : ℕ) (o : OutList) (a : AckQueue) (g : Groups) (b : Bundles) : Type 0 where
   pub out : outGood latest o ≡ true
   pub acks : acks.acksGood a ≡ true
-  pub groups : groups.groupsGood latest g ≡ true
+  pub groups : groupsGood latest g ≡ true
   pub bundles : bundles.bundlesGood b ≡ true
 
 abbrev dataOf : OutList → AckQueue → Groups → Bundles → model.OffData
@@ -71,38 +52,36 @@ dataOf o a g b = record { out = out.abs o; acks = acks.abs a; groups = groups.ab
 lists-data : (latest : ℕ) (o : OutList) (a : AckQueue) (g : Groups) (b : Bundles) → Lists latest o a g b → dataGood latest (dataOf o a g b) ≡ true
 lists-data latest o a g b l =
     let h = groups-iff latest g .0 (l .groups) in
-    parts-data
+    data-test
     latest
     (dataOf o a g b)
     record {
       out = outGood-iff latest o .0 (l .out) .1;
       acks = acksGood-iff a .0 (l .acks) .1;
       groups = h .1;
-      firsts = h .2;
+      apart = h .2;
     }
 
 data-lists : (latest : ℕ) (o : OutList) (a : AckQueue) (g : Groups) (b : Bundles) → out.Wf o → acks.Wf a → groups.Wf g → bundles.Wf b → dataGood latest (dataOf o a g b) ≡ true → Lists latest o a g b
 data-lists latest o a g b wo wa wg wb q =
-    let d = data-parts latest (dataOf o a g b) q in
+    let d = data-facts latest (dataOf o a g b) q in
     record {
       out = outGood-iff latest o .1 (wo, d .out);
       acks = acksGood-iff a .1 (wa, d .acks);
-      groups = groups-iff latest g .1 (wg, d .groups, d .firsts);
+      groups = groups-iff latest g .1 (wg, d .groups, d .apart);
       bundles = good-iff b .1 wb;
     }
+
+lists-parts : (latest : ℕ) (o : OutList) (a : AckQueue) (g : Groups) (b : Bundles) → listsGood latest o a g b ≡ true → Lists latest o a g b
+lists-parts latest o a g b q =
+    let l = and-4 (outGood latest o) (acks.acksGood a) (groupsGood latest g) (bundles.bundlesGood b) q in
+    record { out = l .0; acks = l .1; groups = l .2; bundles = l .3 }
 
 -- ---- off-channel
 
 off-lists : (latest : ℕ) (c : OffChannel) → offTest latest c ≡ true → Lists latest (c .out) (c .acks) (c .groups) (c .bundles)
 unfolding offTest
-off-lists latest c q =
-    let o = outGood latest (c .out) in
-    let a = acks.acksGood (c .acks) in
-    let g = groups.groupsGood latest (c .groups) in
-    let b = bundles.bundlesGood (c .bundles) in
-    let q₁ : o && a && g ≡ true = and-left (o && a && g) b q in
-    let q₂ : o && a ≡ true = and-left (o && a) g q₁ in
-    record { out = and-left o a q₂; acks = and-right o a q₂; groups = and-right (o && a) g q₁; bundles = and-right (o && a && g) b q }
+off-lists latest c q = lists-parts latest (c .out) (c .acks) (c .groups) (c .bundles) q
 
 pub off-good-wf : (latest : ℕ) (c : OffChannel) → offTest latest c ≡ true → WfOff c
 off-good-wf latest c q =
@@ -137,30 +116,8 @@ record OnParts (latest : ℕ) (c : OnChannel) : Type 0 where
 on-parts : (latest : ℕ) (c : OnChannel) → onTest latest c ≡ true → OnParts latest c
 unfolding onTest
 on-parts latest c q =
-    let n = numbersGood c in
-    let o = outGood latest (c .out) in
-    let a = acks.acksGood (c .acks) in
-    let g = groups.groupsGood latest (c .groups) in
-    let b = bundles.bundlesGood (c .bundles) in
-    let w = waiting.bufferGood (c .buffer) (c .expected) in
-    let s = waiting.queueGood (c .queue) (c .expected) in
-    let q₁ : n && o && a && g && b && w ≡ true = and-left (n && o && a && g && b && w) s q in
-    let q₂ : n && o && a && g && b ≡ true = and-left (n && o && a && g && b) w q₁ in
-    let q₃ : n && o && a && g ≡ true = and-left (n && o && a && g) b q₂ in
-    let q₄ : n && o && a ≡ true = and-left (n && o && a) g q₃ in
-    let q₅ : n && o ≡ true = and-left (n && o) a q₄ in
-    record {
-      numbers = and-left n o q₅;
-      lists =
-          record {
-            out = and-right n o q₅;
-            acks = and-right (n && o) a q₄;
-            groups = and-right (n && o && a) g q₃;
-            bundles = and-right (n && o && a && g) b q₂;
-          };
-      buffer = and-right (n && o && a && g && b) w q₁;
-      queue = and-right (n && o && a && g && b && w) s q;
-    }
+    let l = and-4 (numbersGood c) (listsGood latest (c .out) (c .acks) (c .groups) (c .bundles)) (waiting.bufferGood (c .buffer) (c .expected)) (waiting.queueGood (c .queue) (c .expected)) q in
+    record { numbers = l .0; lists = lists-parts latest (c .out) (c .acks) (c .groups) (c .bundles) (l .1); buffer = l .2; queue = l .3 }
 
 pub on-good-wf : (latest : ℕ) (c : OnChannel) → onTest latest c ≡ true → WfOn c
 on-good-wf latest c q =
@@ -178,15 +135,15 @@ on-good-wf latest c q =
 module _ (c : OnChannel) where
   numbers-key : numbersGood c ≡ true → keyGood (absOn c) ≡ true
   unfolding numbersGood
-  numbers-key q = and-left (keyGood (absOn c)) (legal (c .expected)) (and-left (keyGood (absOn c) && legal (c .expected)) (legal (c .source)) q)
+  numbers-key q = and-3 (keyGood (absOn c)) (legal (c .expected)) (legal (c .source)) q .0
 
   numbers-expected : numbersGood c ≡ true → legal (c .expected) ≡ true
   unfolding numbersGood
-  numbers-expected q = and-right (keyGood (absOn c)) (legal (c .expected)) (and-left (keyGood (absOn c) && legal (c .expected)) (legal (c .source)) q)
+  numbers-expected q = and-3 (keyGood (absOn c)) (legal (c .expected)) (legal (c .source)) q .1
 
   numbers-source : numbersGood c ≡ true → legal (c .source) ≡ true
   unfolding numbersGood
-  numbers-source q = and-right (keyGood (absOn c) && legal (c .expected)) (legal (c .source)) q
+  numbers-source q = and-3 (keyGood (absOn c)) (legal (c .expected)) (legal (c .source)) q .2
 
   numbers-all : keyGood (absOn c) ≡ true → legal (c .expected) ≡ true → legal (c .source) ≡ true → numbersGood c ≡ true
   unfolding numbersGood
@@ -206,30 +163,8 @@ pub record On (latest : ℕ) (m : model.OnChannel) : Type 0 where
 pub model-parts : (latest : ℕ) (m : model.OnChannel) → onGood latest m ≡ true → On latest m
 unfolding onGood
 model-parts latest m q =
-    let k = keyGood m in
-    let d = dataGood latest (m .off) in
-    let e = legal (m .expected) in
-    let s = legal (m .source) in
-    let b = allb packetGood (m .buffer) in
-    let a = allb packetGood (m .queue) in
-    let r = rising (m .expected) 0 (m .buffer) in
-    let f = consecutive (m .expected) (m .queue) in
-    let q₁ : k && d && e && s && b && a && r ≡ true = and-left (k && d && e && s && b && a && r) f q in
-    let q₂ : k && d && e && s && b && a ≡ true = and-left (k && d && e && s && b && a) r q₁ in
-    let q₃ : k && d && e && s && b ≡ true = and-left (k && d && e && s && b) a q₂ in
-    let q₄ : k && d && e && s ≡ true = and-left (k && d && e && s) b q₃ in
-    let q₅ : k && d && e ≡ true = and-left (k && d && e) s q₄ in
-    let q₆ : k && d ≡ true = and-left (k && d) e q₅ in
-    record {
-      key = and-left k d q₆;
-      lists = and-right k d q₆;
-      expected = and-right (k && d) e q₅;
-      source = and-right (k && d && e) s q₄;
-      buffered = and-right (k && d && e && s) b q₃;
-      queued = and-right (k && d && e && s && b) a q₂;
-      rises = and-right (k && d && e && s && b && a) r q₁;
-      follows = and-right (k && d && e && s && b && a && r) f q;
-    }
+    let l = and-8 (keyGood m) (dataGood latest (m .off)) (legal (m .expected)) (legal (m .source)) (allb packetGood (m .buffer)) (allb packetGood (m .queue)) (rising (m .expected) 0 (m .buffer)) (consecutive (m .expected) (m .queue)) q in
+    record { key = l .0; lists = l .1; expected = l .2; source = l .3; buffered = l .4; queued = l .5; rises = l .6; follows = l .7 }
 
 pub parts-model : (latest : ℕ) (m : model.OnChannel) → On latest m → onGood latest m ≡ true
 unfolding onGood
@@ -262,7 +197,7 @@ on-wf-good latest c w q =
     let l = data-lists latest (c .out) (c .acks) (c .groups) (c .bundles) (w .out) (w .acks) (w .groups) (w .bundles) (p .lists) in
     let b = buffer-good (c .buffer) (c .expected) .1 (w .buffer, p .buffered, p .rises) in
     let s = queue-good (c .queue) (c .expected) .1 (w .queue, p .queued, p .follows) in
-    λ i. n i && l .out i && l .acks i && l .groups i && l .bundles i && b i && s i
+    λ i. n i && (l .out i && l .acks i && l .groups i && l .bundles i) && b i && s i
 
 pub onTest-iff : (latest : ℕ) (c : OnChannel) → onTest latest c ≡ true ↔ (WfOn c × (onGood latest (absOn c) ≡ true))
 onTest-iff latest c = ((λ q. (on-good-wf latest c q, on-good-model latest c q)), λ p. on-wf-good latest c (p .0) (p .1))
@@ -272,19 +207,12 @@ onTest-iff latest c = ((λ q. (on-good-wf latest c q, on-good-model latest c q))
 pub idle-off-zero : (latest : ℕ) (c : OffChannel) → offTest latest c ≡ true → idleOff c ≡ true → c ≡ reprOff (model.newOff 0)
 unfolding idleOff splitBy
 idle-off-zero latest c g q =
-    let k = eqb (c .address) 0 in
-    let o = eqb (c .out .len) 0 in
-    let a = eqb (c .acks .len) 0 in
-    let h = eqb (c .groups .len) 0 in
-    let b = eqb (c .bundles .len) 0 in
-    let q₁ : k && o && a && h ≡ true = and-left (k && o && a && h) b q in
-    let q₂ : k && o && a ≡ true = and-left (k && o && a) h q₁ in
-    let q₃ : k && o ≡ true = and-left (k && o) a q₂ in
-    let p₁ : c .address ≡ 0 = eqb-true _ _ (and-left k o q₃) in
-    let p₂ : out.abs (c .out) ≡ [] = take-none (c .out .len) (c .out .entries) (eqb-true _ _ (and-right k o q₃)) in
-    let p₃ : acks.abs (c .acks) ≡ [] = take-none (c .acks .len) (c .acks .numbers) (eqb-true _ _ (and-right (k && o) a q₂)) in
-    let p₄ : groups.abs (c .groups) ≡ [] = ap (λ l. map groups.absG l) (take-none (c .groups .len) (c .groups .groups) (eqb-true _ _ (and-right (k && o && a) h q₁))) in
-    let p₅ : bundles.abs (c .bundles) ≡ [] = ap (λ (l : List ℕ). splitBy l (c .bundles .handles)) (take-none (c .bundles .len) (c .bundles .lengths) (eqb-true _ _ (and-right (k && o && a && h) b q))) in
+    let z = and-5 (eqb (c .address) 0) (eqb (c .out .len) 0) (eqb (c .acks .len) 0) (eqb (c .groups .len) 0) (eqb (c .bundles .len) 0) q in
+    let p₁ : c .address ≡ 0 = eqb-true _ _ (z .0) in
+    let p₂ : out.abs (c .out) ≡ [] = take-none (c .out .len) (c .out .entries) (eqb-true _ _ (z .1)) in
+    let p₃ : acks.abs (c .acks) ≡ [] = take-none (c .acks .len) (c .acks .numbers) (eqb-true _ _ (z .2)) in
+    let p₄ : groups.abs (c .groups) ≡ [] = ap (λ l. map groups.absG l) (take-none (c .groups .len) (c .groups .groups) (eqb-true _ _ (z .3))) in
+    let p₅ : bundles.abs (c .bundles) ≡ [] = ap (λ (l : List ℕ). splitBy l (c .bundles .handles)) (take-none (c .bundles .len) (c .bundles .lengths) (eqb-true _ _ (z .4))) in
     form-off c (off-good-wf latest c g)
     ∙ (λ i. reprOff (record { address = p₁ i; off = record { out = p₂ i; acks = p₃ i; groups = p₄ i; bundles = p₅ i } }))
 
@@ -322,26 +250,19 @@ idle-on-zero latest c g q =
     let b = eqb (c .bundles .len) 0 in
     let w = eqb (c .buffer .len) 0 in
     let u = eqb (c .queue .len) 0 in
-    let q₁ : k && x && v && e && s && o && a && h && b && w ≡ true = and-left (k && x && v && e && s && o && a && h && b && w) u q in
-    let q₂ : k && x && v && e && s && o && a && h && b ≡ true = and-left (k && x && v && e && s && o && a && h && b) w q₁ in
-    let q₃ : k && x && v && e && s && o && a && h ≡ true = and-left (k && x && v && e && s && o && a && h) b q₂ in
-    let q₄ : k && x && v && e && s && o && a ≡ true = and-left (k && x && v && e && s && o && a) h q₃ in
-    let q₅ : k && x && v && e && s && o ≡ true = and-left (k && x && v && e && s && o) a q₄ in
-    let q₆ : k && x && v && e && s ≡ true = and-left (k && x && v && e && s) o q₅ in
-    let q₇ : k && x && v && e ≡ true = and-left (k && x && v && e) s q₆ in
-    let q₈ : k && x && v ≡ true = and-left (k && x && v) e q₇ in
-    let q₉ : k && x ≡ true = and-left (k && x) v q₈ in
-    let p₁ : c .address ≡ 0 = eqb-true _ _ (and-left k x q₉) in
-    let p₂ : c .index ≡ 0 = eqb-true _ _ (and-right k x q₉) in
-    let p₃ : c .version ≡ 0 = eqb-true _ _ (and-right (k && x) v q₈) in
-    let p₄ : c .expected ≡ 0 = eqb-true _ _ (and-right (k && x && v) e q₇) in
-    let p₅ : c .source ≡ 0 = eqb-true _ _ (and-right (k && x && v && e) s q₆) in
-    let p₆ : out.abs (c .out) ≡ [] = take-none (c .out .len) (c .out .entries) (eqb-true _ _ (and-right (k && x && v && e && s) o q₅)) in
-    let p₇ : acks.abs (c .acks) ≡ [] = take-none (c .acks .len) (c .acks .numbers) (eqb-true _ _ (and-right (k && x && v && e && s && o) a q₄)) in
-    let p₈ : groups.abs (c .groups) ≡ [] = ap (λ l. map groups.absG l) (take-none (c .groups .len) (c .groups .groups) (eqb-true _ _ (and-right (k && x && v && e && s && o && a) h q₃))) in
-    let p₉ : bundles.abs (c .bundles) ≡ [] = ap (λ (l : List ℕ). splitBy l (c .bundles .handles)) (take-none (c .bundles .len) (c .bundles .lengths) (eqb-true _ _ (and-right (k && x && v && e && s && o && a && h) b q₂))) in
-    let p₁₀ : waiting.abs (c .buffer) ≡ [] = take-none (c .buffer .len) (c .buffer .packets) (eqb-true _ _ (and-right (k && x && v && e && s && o && a && h && b) w q₁)) in
-    let p₁₁ : waiting.abs (c .queue) ≡ [] = take-none (c .queue .len) (c .queue .packets) (eqb-true _ _ (and-right (k && x && v && e && s && o && a && h && b && w) u q)) in
+    let y = and-4 (k && x && v && e && s && o && a && h) b w u q in
+    let z = and-8 k x v e s o a h (y .0) in
+    let p₁ : c .address ≡ 0 = eqb-true _ _ (z .0) in
+    let p₂ : c .index ≡ 0 = eqb-true _ _ (z .1) in
+    let p₃ : c .version ≡ 0 = eqb-true _ _ (z .2) in
+    let p₄ : c .expected ≡ 0 = eqb-true _ _ (z .3) in
+    let p₅ : c .source ≡ 0 = eqb-true _ _ (z .4) in
+    let p₆ : out.abs (c .out) ≡ [] = take-none (c .out .len) (c .out .entries) (eqb-true _ _ (z .5)) in
+    let p₇ : acks.abs (c .acks) ≡ [] = take-none (c .acks .len) (c .acks .numbers) (eqb-true _ _ (z .6)) in
+    let p₈ : groups.abs (c .groups) ≡ [] = ap (λ l. map groups.absG l) (take-none (c .groups .len) (c .groups .groups) (eqb-true _ _ (z .7))) in
+    let p₉ : bundles.abs (c .bundles) ≡ [] = ap (λ (l : List ℕ). splitBy l (c .bundles .handles)) (take-none (c .bundles .len) (c .bundles .lengths) (eqb-true _ _ (y .1))) in
+    let p₁₀ : waiting.abs (c .buffer) ≡ [] = take-none (c .buffer .len) (c .buffer .packets) (eqb-true _ _ (y .2)) in
+    let p₁₁ : waiting.abs (c .queue) ≡ [] = take-none (c .queue .len) (c .queue .packets) (eqb-true _ _ (y .3)) in
     form-on c (on-good-wf latest c g)
     ∙ (λ i. reprOn (record {
       address = p₁ i;

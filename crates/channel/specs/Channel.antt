@@ -8,10 +8,15 @@ use Rattle.model.specs.Record.{Outcome, granted, rejected, farFragment, bareRun
 use Rattle.model.specs.Room.{fitsOff, fitsOn}
 use Rattle.model.specs.Wellformed.{keyGood}
 use Rattle.seq.specs.Num.{legal}
+use Rattle.out_list.specs.declared.OutList.{OutList}
 use Rattle.out_list.specs.Out as out
 use Rattle.out_test.specs.Test.{outGood}
+use Rattle.ack_queue.specs.declared.AckQueue.{AckQueue}
 use Rattle.ack_queue.specs.Queue as acks
+use Rattle.fragments.specs.declared.Groups.{Groups}
 use Rattle.fragments.specs.Groups as groups
+use Rattle.group_test.specs.Test.{groupsGood}
+use Rattle.bundles.specs.declared.Bundles.{Bundles}
 use Rattle.bundles.specs.Bundles as bundles
 use Rattle.waiting.specs.Waiting as waiting
 use Rattle.channel.specs.declared.OffChannel.{OffChannel}
@@ -100,9 +105,12 @@ pub record WfOn (c : OnChannel) : Type 0 where
 
 -- ---- the tests, for any value: each list's own, and on-channel the key and the numbers. What each says is shown in the proofs
 
--- every list in its form and good, at a table's latest time
+-- what both kinds have: every list in its form and good, at a table's latest time
+abbrev pub listsGood : ℕ → OutList → AckQueue → Groups → Bundles → Bool
+listsGood latest o a g b = outGood latest o && acks.acksGood a && groupsGood latest g && bundles.bundlesGood b
+
 unfoldable pub offTest : ℕ → OffChannel → Bool
-offTest latest c = outGood latest (c .out) && acks.acksGood (c .acks) && groups.groupsGood latest (c .groups) && bundles.bundlesGood (c .bundles)
+offTest latest c = listsGood latest (c .out) (c .acks) (c .groups) (c .bundles)
 
 -- "numbers and keys are legal": the key has no index, or "index and version (both nonzero)"
 unfoldable pub numbersGood : OnChannel → Bool
@@ -110,7 +118,7 @@ numbersGood c = keyGood (absOn c) && legal (c .expected) && legal (c .source)
 
 unfoldable pub onTest : ℕ → OnChannel → Bool
 onTest latest c =
-    numbersGood c && outGood latest (c .out) && acks.acksGood (c .acks) && groups.groupsGood latest (c .groups) && bundles.bundlesGood (c .bundles) && waiting.bufferGood (c .buffer) (c .expected) && waiting.queueGood (c .queue) (c .expected)
+    numbersGood c && listsGood latest (c .out) (c .acks) (c .groups) (c .bundles) && waiting.bufferGood (c .buffer) (c .expected) && waiting.queueGood (c .queue) (c .expected)
 
 -- no key and no numbers, and every list is empty: of a channel that passes its test this says that it is all zero
 unfoldable pub idleOff : OffChannel → Bool

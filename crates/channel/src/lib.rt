@@ -11,7 +11,7 @@ ghost use lib.Dec.{eqb};
 ghost use Rattle.seq.specs.Num as Num;
 ghost use Rattle.model.specs.State as model;
 ghost use Rattle.model.specs.Rust.{holdsOff, holdsOn};
-ghost use Rattle.channel.specs.Channel.{absOff, reprOff, absOn, reprOn, WfOff, WfOn, offTest, onTest, idleOff, idleOn};
+ghost use Rattle.channel.specs.Channel.{absOff, reprOff, absOn, reprOn, WfOff, WfOn};
 
 // Rust: OffChannel, with its OffChannelData.
 #[repr(C)]
@@ -164,26 +164,7 @@ pub fn on_holds(c: OnChannel, handle: u32) -> bool
     waiting::holds(q, handle)
 }
 
-// ---- the tests, for any value
-
-pub fn off_well_formed(c: OffChannel, latest: u64) -> bool
-    ensures { λ r. ⌜ r ≡ offTest latest c ⌝ }
-{
-    let o = c.out;
-    if !out_test::well_formed(o, latest) {
-        return false;
-    }
-    let a = c.acks;
-    if !ack_queue::well_formed(a) {
-        return false;
-    }
-    let g = c.groups;
-    if !fragments::well_formed(g, latest) {
-        return false;
-    }
-    let b = c.bundles;
-    bundles::well_formed(b)
-}
+// ---- an on-channel's key and numbers, tested for any value
 
 // Without an index there is no version, with one there is.
 fn key_good(index: u32, version: u32) -> bool
@@ -195,67 +176,8 @@ fn key_good(index: u32, version: u32) -> bool
     version != 0
 }
 
-fn numbers_good(index: u32, version: u32, expected: u32, source: u32) -> bool
+pub fn numbers_good(index: u32, version: u32, expected: u32, source: u32) -> bool
     ensures { λ r. ⌜ r ≡ cond (eqb index 0) (eqb version 0) (not (eqb version 0)) && Num.legal expected && Num.legal source ⌝ }
 {
     key_good(index, version) & seq::legal(expected) & seq::legal(source)
-}
-
-pub fn on_well_formed(c: OnChannel, latest: u64) -> bool
-    ensures { λ r. ⌜ r ≡ onTest latest c ⌝ }
-{
-    if !numbers_good(c.index, c.version, c.expected, c.source) {
-        return false;
-    }
-    let o = c.out;
-    if !out_test::well_formed(o, latest) {
-        return false;
-    }
-    let a = c.acks;
-    if !ack_queue::well_formed(a) {
-        return false;
-    }
-    let g = c.groups;
-    if !fragments::well_formed(g, latest) {
-        return false;
-    }
-    let b = c.bundles;
-    if !bundles::well_formed(b) {
-        return false;
-    }
-    let w = c.buffer;
-    if !waiting::well_formed_buffer(w, c.expected) {
-        return false;
-    }
-    let q = c.queue;
-    waiting::well_formed_queue(q, c.expected)
-}
-
-// Whether key and counts are 0.
-pub fn off_idle(c: OffChannel) -> bool
-    ensures { λ r. ⌜ r ≡ idleOff c ⌝ }
-{
-    (c.address == 0)
-        & (c.out.len == 0)
-        & (c.acks.len == 0)
-        & (c.groups.len == 0)
-        & (c.bundles.len == 0)
-}
-
-// Whether key, numbers and counts are 0.
-pub fn on_idle(c: OnChannel) -> bool
-    ensures { λ r. ⌜ r ≡ idleOn c ⌝ }
-{
-    let key = (c.address == 0)
-        & (c.index == 0)
-        & (c.version == 0)
-        & (c.expected == 0)
-        & (c.source == 0);
-    key
-        & (c.out.len == 0)
-        & (c.acks.len == 0)
-        & (c.groups.len == 0)
-        & (c.bundles.len == 0)
-        & (c.buffer.len == 0)
-        & (c.queue.len == 0)
 }

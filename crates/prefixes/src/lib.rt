@@ -8,7 +8,7 @@ ghost use Rattle.calls.specs.Calls.{lastPrefix, resetOf, transferOf};
 pub fn last_accepted_prefix(t: Table) -> Prefix
     ensures { λ r. ⌜ r ≡ lastPrefix t ⌝ }
 {
-    if !table::well_formed(t) {
+    if !table_test::well_formed(t) {
         return Prefix { code: 1, prefix: 0 };
     }
     Prefix {
@@ -20,7 +20,7 @@ pub fn last_accepted_prefix(t: Table) -> Prefix
 pub fn reset_prefix_offset(t: Table) -> Done
     ensures { λ r. ⌜ r ≡ resetOf t ⌝ }
 {
-    if !table::well_formed(t) {
+    if !table_test::well_formed(t) {
         return Done { table: t, code: 1 };
     }
     let mut u = t;
@@ -32,7 +32,7 @@ pub fn reset_prefix_offset(t: Table) -> Done
 pub fn transfer_prefix_offset_from_last_received(t: Table) -> Done
     ensures { λ r. ⌜ r ≡ transferOf t ⌝ }
 {
-    if !table::well_formed(t) {
+    if !table_test::well_formed(t) {
         return Done { table: t, code: 1 };
     }
     let mut u = t;

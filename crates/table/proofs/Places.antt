@@ -22,19 +22,19 @@ use Rattle.channel.proofs.Laws.{abs-repr-off, abs-repr-on, repr-wf-off, repr-wf
 use Rattle.table.specs.declared.Table.{Table}
 use Rattle.table.specs.Keys.{isAddress, isKey, offKey, onKey, keysOf}
 use Rattle.table.specs.Table.{abs, repr, Wf, zeroOff, zeroOn}
-use Rattle.table.proofs.Laws.{onPlace, offPlace}
+use Rattle.table.specs.Places.{placeOn, placeOff}
 use Rattle.table.proofs.Test.{meets-parts, wf-meets, form-offs, form-ons, form-offcount, form-oncount}
 
 -- ---- the search among the keys of a table is the search among the channels of its state
 
-pub off-slot-is : (s : model.State) (a : ℕ) → length (s .protocol .offs) ≤ 4 → slotOf (isAddress a) (take (length (s .protocol .offs)) (keysOf (repr s) .offs)) ≡ offPlace a s
+pub off-slot-is : (s : model.State) (a : ℕ) → length (s .protocol .offs) ≤ 4 → slotOf (isAddress a) (take (length (s .protocol .offs)) (keysOf (repr s) .offs)) ≡ placeOff a s
 unfolding keysOf repr
 off-slot-is s a h =
     let l = s .protocol .offs in
     let e : take (length l) (map offKey (pad 4 zeroOff (map reprOff l))) ≡ map (λ (m : model.OffChannel). offKey (reprOff m)) l = take-map offKey (length l) (pad 4 zeroOff (map reprOff l)) ∙ ap (λ (r : List OffChannel). map offKey r) (take-pad-map reprOff 4 zeroOff l h) ∙ map-map offKey reprOff l in
     ap (λ (r : List ℕ). slotOf (isAddress a) r) e ∙ slot-map (λ (m : model.OffChannel). offKey (reprOff m)) (isAddress a) (model.isOff a) l (λ m. refl)
 
-pub on-slot-is : (s : model.State) (a i : ℕ) → length (s .protocol .ons) ≤ 8 → slotOf (isKey a i) (take (length (s .protocol .ons)) (keysOf (repr s) .ons)) ≡ onPlace a i s
+pub on-slot-is : (s : model.State) (a i : ℕ) → length (s .protocol .ons) ≤ 8 → slotOf (isKey a i) (take (length (s .protocol .ons)) (keysOf (repr s) .ons)) ≡ placeOn a i s
 unfolding keysOf repr
 on-slot-is s a i h =
     let l = s .protocol .ons in
@@ -57,10 +57,10 @@ module _ (t : Table) (w : Wf t) where
   pub few-ons : length (abs t .protocol .ons) ≤ 8
   few-ons = wf-meets t w .few-ons
 
-  pub off-slot-at : (a : ℕ) → slotOf (isAddress a) (take (t .offcount) (keysOf t .offs)) ≡ offPlace a (abs t)
+  pub off-slot-at : (a : ℕ) → slotOf (isAddress a) (take (t .offcount) (keysOf t .offs)) ≡ placeOff a (abs t)
   off-slot-at a = (λ k. slotOf (isAddress a) (take (form-offcount t w k) (keysOf (w .form k) .offs))) ∙ off-slot-is (abs t) a few-offs
 
-  pub on-slot-at : (a i : ℕ) → slotOf (isKey a i) (take (t .oncount) (keysOf t .ons)) ≡ onPlace a i (abs t)
+  pub on-slot-at : (a i : ℕ) → slotOf (isKey a i) (take (t .oncount) (keysOf t .ons)) ≡ placeOn a i (abs t)
   on-slot-at a i = (λ k. slotOf (isKey a i) (take (form-oncount t w k) (keysOf (w .form k) .ons))) ∙ on-slot-is (abs t) a i few-ons
 
   -- the channel of a key, found or new, keeps the limits; one that is there is good

@@ -19,6 +19,7 @@ use Rattle.packet.specs.Data.{isSet, isFlag}
 use Rattle.model.specs.State as model
 use Rattle.model.specs.Room.{fitsOff, fitsOn, fits}
 use Rattle.model.specs.Wellformed.{distinct, offGood, onGood, sameOff, sameOn, good, wellFormed}
+use Rattle.model.proofs.Wellformed.{well-facts, well-test}
 use Rattle.channel.specs.declared.OffChannel.{OffChannel}
 use Rattle.channel.specs.declared.OnChannel.{OnChannel}
 use Rattle.channel.specs.Channel.{absOff, reprOff, absOn, reprOn, offTest, onTest, idleOff, idleOn}
@@ -41,42 +42,28 @@ pub record Meets (s : model.State) : Type 0 where
   pub source : legal (s .protocol .source) ≡ true
 
 pub meets-parts : (s : model.State) → wellFormed s ≡ true → Meets s
-unfolding wellFormed fits good
 meets-parts s q =
-    let a = leb (length (s .protocol .offs)) 4 in
-    let b = leb (length (s .protocol .ons)) 8 in
-    let c = allb fitsOff (s .protocol .offs) in
-    let d = allb fitsOn (s .protocol .ons) in
-    let e = allb (offGood (s .latest)) (s .protocol .offs) in
-    let f = allb (onGood (s .latest)) (s .protocol .ons) in
-    let g = distinct sameOff (s .protocol .offs) in
-    let h = distinct sameOn (s .protocol .ons) in
-    let l = legal (s .protocol .source) in
-    let q₁ : a && b && c && d ≡ true = and-left (a && b && c && d) (e && f && g && h && l) q in
-    let q₂ : a && b && c ≡ true = and-left (a && b && c) d q₁ in
-    let q₃ : a && b ≡ true = and-left (a && b) c q₂ in
-    let r₁ : e && f && g && h && l ≡ true = and-right (a && b && c && d) (e && f && g && h && l) q in
-    let r₂ : e && f && g && h ≡ true = and-left (e && f && g && h) l r₁ in
-    let r₃ : e && f && g ≡ true = and-left (e && f && g) h r₂ in
-    let r₄ : e && f ≡ true = and-left (e && f) g r₃ in
+    let w = well-facts s q in
     record {
-      few-offs = leb-true _ _ (and-left a b q₃);
-      few-ons = leb-true _ _ (and-right a b q₃);
-      offs-fit = and-right (a && b) c q₂;
-      ons-fit = and-right (a && b && c) d q₁;
-      offs-good = and-left e f r₄;
-      ons-good = and-right e f r₄;
-      offs-apart = and-right (e && f) g r₃;
-      ons-apart = and-right (e && f && g) h r₂;
-      source = and-right (e && f && g && h) l r₁;
+      few-offs = w .fits .offs;
+      few-ons = w .fits .ons;
+      offs-fit = w .fits .eachOff;
+      ons-fit = w .fits .eachOn;
+      offs-good = w .good .offs;
+      ons-good = w .good .ons;
+      offs-apart = w .good .apartOffs;
+      ons-apart = w .good .apartOns;
+      source = w .good .source;
     }
 
 pub parts-meet : (s : model.State) → Meets s → wellFormed s ≡ true
-unfolding wellFormed fits good
 parts-meet s m =
-    let a = le-leb (length (s .protocol .offs)) 4 (m .few-offs) in
-    let b = le-leb (length (s .protocol .ons)) 8 (m .few-ons) in
-    λ i. a i && b i && m .offs-fit i && m .ons-fit i && (m .offs-good i && m .ons-good i && m .offs-apart i && m .ons-apart i && m .source i)
+    well-test
+    s
+    record {
+      fits = record { offs = m .few-offs; ons = m .few-ons; eachOff = m .offs-fit; eachOn = m .ons-fit };
+      good = record { offs = m .offs-good; ons = m .ons-good; apartOffs = m .offs-apart; apartOns = m .ons-apart; source = m .source };
+    }
 
 -- ---- the parts of the test
 

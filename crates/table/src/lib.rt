@@ -2,19 +2,14 @@
 use channel::OffChannel;
 use channel::OnChannel;
 ghost use mathlib.Core.Path.{_≡_};
-ghost use mathlib.Core.Bool.{cond, _&&_};
+ghost use mathlib.Core.Bool.{cond};
 ghost use mathlib.Core.List.{map};
 ghost use Prim.Native.Nat.{_≤_};
-ghost use lib.Dec.{leb};
 ghost use lib.ListN.{take};
 ghost use Rattle.lists.specs.Find.{slotOf};
-ghost use Rattle.seq.specs.Num as Num;
-ghost use Rattle.packet.specs.Data.{isFlag};
 ghost use Rattle.model.specs.State as model;
-ghost use Rattle.model.specs.Wellformed.{distinct};
-ghost use Rattle.channel.specs.Channel.{offTest, onTest};
-ghost use Rattle.table.specs.Keys.{isKey, isAddress, sameKey, offKey, onKey, keysOf};
-ghost use Rattle.table.specs.Table.{repr, spareOff, spareOn, offsGood, onsGood, wfb};
+ghost use Rattle.table.specs.Keys.{isKey, isAddress, offKey, onKey, keysOf};
+ghost use Rattle.table.specs.Table.{repr};
 
 // Rust: Protocol and ProtocolShared, with the latest time. forwarding is follows_accepted, prefix is last_accepted_prefix, offset is
 // prefix_offset, source is off_seq_alloc.
@@ -76,7 +71,7 @@ impl Table {
 
 // ---- keys
 
-fn off_keys(l: [OffChannel; 4]) -> [u32; 4]
+pub fn off_keys(l: [OffChannel; 4]) -> [u32; 4]
     ensures { λ r. ⌜ r ≡ map offKey l ⌝ }
 {
     let mut r = [0; 4];
@@ -89,7 +84,7 @@ fn off_keys(l: [OffChannel; 4]) -> [u32; 4]
     r
 }
 
-fn on_keys(l: [OnChannel; 8]) -> [OnKey; 8]
+pub fn on_keys(l: [OnChannel; 8]) -> [OnKey; 8]
     ensures { λ r. ⌜ r ≡ map onKey l ⌝ }
 {
     let none = OnKey {
@@ -149,109 +144,4 @@ pub fn on_slot(keys: [OnKey; 8], n: usize, address: u32, index: u32) -> usize
         i += 1;
     }
     i
-}
-
-// ---- "A table is well formed if ..": the test, for any table
-
-// Whether flag, shared number and counts are in range.
-fn numbers_good(forwarding: u32, source: u32, offcount: u32, oncount: u32) -> bool
-    ensures { λ r. ⌜ r ≡ isFlag forwarding && Num.legal source && leb offcount 4 && leb oncount 8 ⌝ }
-{
-    (forwarding <= 1) & seq::legal(source) & (offcount <= 4) & (oncount <= 8)
-}
-
-// A channel in use, or an unused one.
-fn off_place_good(c: OffChannel, used: bool, latest: u64) -> bool
-    ensures { λ r. ⌜ r ≡ cond used (offTest latest c) (spareOff latest c) ⌝ }
-{
-    let idle = channel::off_idle(c);
-    let good = channel::off_well_formed(c, latest);
-    good & (used | idle)
-}
-
-fn on_place_good(c: OnChannel, used: bool, latest: u64) -> bool
-    ensures { λ r. ⌜ r ≡ cond used (onTest latest c) (spareOn latest c) ⌝ }
-{
-    let idle = channel::on_idle(c);
-    let good = channel::on_well_formed(c, latest);
-    good & (used | idle)
-}
-
-// Each channel in its place. Fixed turns and no way out, so that no channel's array is moved.
-fn offs_good(l: [OffChannel; 4], n: usize, latest: u64) -> bool
-    ensures { λ r. ⌜ r ≡ offsGood l n latest ⌝ }
-{
-    let mut good = true;
-    let mut i: usize = 0;
-    while i < 4 {
-        let c = l[i];
-        good = good & off_place_good(c, i < n, latest);
-        i += 1;
-    }
-    good
-}
-
-fn ons_good(l: [OnChannel; 8], n: usize, latest: u64) -> bool
-    ensures { λ r. ⌜ r ≡ onsGood l n latest ⌝ }
-{
-    let mut good = true;
-    let mut i: usize = 0;
-    while i < 8 {
-        let c = l[i];
-        good = good & on_place_good(c, i < n, latest);
-        i += 1;
-    }
-    good
-}
-
-// Each key of the first n stands nowhere before itself.
-fn offs_distinct(keys: [u32; 4], n: usize) -> bool
-    requires { ⌜ n ≤ 4 ⌝ }
-    ensures { λ r. ⌜ r ≡ distinct isAddress (take n keys) ⌝ }
-{
-    let mut good = true;
-    let mut i: usize = 0;
-    while i < n {
-        let a = keys[i];
-        let at = off_slot(keys, i, a);
-        good = good & (at == i);
-        i += 1;
-    }
-    good
-}
-
-fn ons_distinct(keys: [OnKey; 8], n: usize) -> bool
-    requires { ⌜ n ≤ 8 ⌝ }
-    ensures { λ r. ⌜ r ≡ distinct sameKey (take n keys) ⌝ }
-{
-    let mut good = true;
-    let mut i: usize = 0;
-    while i < n {
-        let k = keys[i];
-        let at = on_slot(keys, i, k.address, k.index);
-        good = good & (at == i);
-        i += 1;
-    }
-    good
-}
-
-pub fn well_formed(t: Table) -> bool
-    ensures { λ r. ⌜ r ≡ wfb t ⌝ }
-{
-    if !numbers_good(t.forwarding, t.source, t.offcount, t.oncount) {
-        return false;
-    }
-    let n = t.offcount as usize;
-    let a = t.offs;
-    if !offs_good(a, n, t.latest) {
-        return false;
-    }
-    let m = t.oncount as usize;
-    let b = t.ons;
-    if !ons_good(b, m, t.latest) {
-        return false;
-    }
-    let k = off_keys(a);
-    let l = on_keys(b);
-    offs_distinct(k, n) & ons_distinct(l, m)
 }

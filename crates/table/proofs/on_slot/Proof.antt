@@ -1,7 +1,7 @@
 use Rattle.table.proofs.Slots.{slots}
 use Rattle.lists.proofs.Looking.{Finding}
 use Prim.Native.Nat.{_-_}
-use Rattle.table.specs.Keys.{isAddress, isKey}
+use Rattle.table.specs.Keys.{isKey}
 use Rattle.table.proofs.on_slot.Statement.{statement}
 use Rattle.table.proofs.on_slot.Tie as tie
 

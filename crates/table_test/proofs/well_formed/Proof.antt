@@ -1,6 +1,6 @@
-use Rattle.table.proofs.Steps.{whole}
-use Rattle.table.proofs.well_formed.Statement.{statement}
-use Rattle.table.proofs.well_formed.Tie as tie
+use Rattle.table_test.proofs.Steps.{whole}
+use Rattle.table_test.proofs.well_formed.Statement.{statement}
+use Rattle.table_test.proofs.well_formed.Tie as tie
 
 numbers-good-requires : tie.Need-numbers-good-requires
 numbers-good-requires c κs = search whole

@@ -1,10 +1,10 @@
 use Prim.Native.Nat.{_-_}
 use Rattle.lists.proofs.Looking.{Testing}
 use Rattle.channel.specs.Channel.{offTest}
 use Rattle.table.specs.Table.{spareOff}
-use Rattle.table.proofs.Steps.{offs-turn, testing}
-use Rattle.table.proofs.offs_good.Statement.{statement}
-use Rattle.table.proofs.offs_good.Tie as tie
+use Rattle.table_test.proofs.Steps.{offs-turn, testing}
+use Rattle.table_test.proofs.offs_good.Statement.{statement}
+use Rattle.table_test.proofs.offs_good.Tie as tie
 
 abbrev Inv-loop : tie.InvT-loop
 Inv-loop n latest l good₀ i₀ good i = Testing (offTest latest) (spareOff latest) 4 n l good i
@@ -21,8 +21,17 @@ mul-c c = search testing
 array-copy-out-c : tie.Need-array-copy-out-c Inv-loop μ-loop
 array-copy-out-c c = search testing
 
-off-place-good-requires : tie.Need-off-place-good-requires Inv-loop μ-loop
-off-place-good-requires c κs = search testing
+well-formed-requires : tie.Need-well-formed-requires Inv-loop μ-loop
+well-formed-requires c κs = search testing
+
+well-formed-requires-2 : tie.Need-well-formed-requires-2 Inv-loop μ-loop
+well-formed-requires-2 c κs = search testing
+
+well-formed-requires-3 : tie.Need-well-formed-requires-3 Inv-loop μ-loop
+well-formed-requires-3 c κs = search testing
+
+well-formed-requires-4 : tie.Need-well-formed-requires-4 Inv-loop μ-loop
+well-formed-requires-4 c κs = search testing
 
 add-i : tie.Need-add-i Inv-loop μ-loop
 add-i c = search testing
@@ -45,7 +54,10 @@ offs-good-spec =
     loop-holds
     mul-c
     array-copy-out-c
-    off-place-good-requires
+    well-formed-requires
+    well-formed-requires-2
+    well-formed-requires-3
+    well-formed-requires-4
     add-i
     loop-less
     loop-again

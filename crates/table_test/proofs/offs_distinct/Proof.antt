@@ -1,8 +1,8 @@
 use Prim.Native.Nat.{_-_}
 use Rattle.table.specs.Keys.{isAddress}
-use Rattle.table.proofs.Steps.{Apart, parting}
-use Rattle.table.proofs.offs_distinct.Statement.{statement}
-use Rattle.table.proofs.offs_distinct.Tie as tie
+use Rattle.table_test.proofs.Steps.{Apart, parting}
+use Rattle.table_test.proofs.offs_distinct.Statement.{statement}
+use Rattle.table_test.proofs.offs_distinct.Tie as tie
 
 abbrev Inv-loop : tie.InvT-loop
 Inv-loop n keys good₀ i₀ good i = Apart isAddress 4 keys n good i
