@@ -31,7 +31,7 @@ pub fn resend_offs(
     while i < n {
         let c = r[i];
         let o = c.out;
-        if !out_resends::quiet(o, time, timeout, give_up) {
+        if out_resends::busy(o, time, timeout, give_up) {
             let s = listing::resend_list(o, c.address, time, timeout, give_up, lent, k);
             let sent = s.out;
             let mut d = c;
@@ -64,7 +64,7 @@ pub fn resend_ons(
     while i < n {
         let c = r[i];
         let o = c.out;
-        if !out_resends::quiet(o, time, timeout, give_up) {
+        if out_resends::busy(o, time, timeout, give_up) {
             let s = listing::resend_list(o, c.address, time, timeout, give_up, lent, k);
             let sent = s.out;
             let mut d = c;

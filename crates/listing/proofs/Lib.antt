@@ -1,1 +1,3 @@
 pub mod OneList
+pub mod Slide
+pub mod Turns

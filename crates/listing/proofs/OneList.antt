@@ -1,26 +1,24 @@
--- One out list in a resend: its rows counted and written, the list after it, and a list that stays as it is. Assumes nothing.
+-- One out list in a resend: its rows counted, and a list that stays as it is. Assumes nothing.
 use mathlib.Core.Path.{_≡_, refl, ap, sym, _∙_}
 use mathlib.Core.Bool.{true, false, not}
 use mathlib.Core.List.{List, [], map}
-use Prim.Native.Nat.{ℕ, _+_, _≤_}
+use Prim.Native.Nat.{ℕ, _≤_}
 use native.Mathlib.Omega.{arith}
 use borrow.Author.Tests.{not-true}
 use lib.ListN.{length, length-map}
-use Rattle.lists.specs.Find.{keepBy, writtenAt}
+use Rattle.lists.specs.Find.{keepBy}
 use Rattle.lists.proofs.Pad.{and-left, and-right}
 use Rattle.lists.proofs.Find.{length-keep, keep-all, keep-none}
 use Rattle.lists.proofs.Tests.{allb-weaken}
 use Rattle.lists.proofs.Maps.{map-kept}
 use Rattle.packet.specs.declared.OutEntry.{OutEntry}
 use Rattle.model.specs.Rust.{young, due, mark}
-use Rattle.model.specs.Calls.{flat}
 use Rattle.out_list.specs.declared.OutList.{OutList}
 use Rattle.out_list.specs.Out as out
-use Rattle.out_list.proofs.Form.{wf-le, abs-of, wf-of}
-use Rattle.out_resends.specs.Resends.{dueRows, calm}
+use Rattle.out_list.proofs.Form.{wf-le}
+use Rattle.out_resends.specs.Resends.{calm}
 use Rattle.out_resends.proofs.Resends.{mark-no}
-use Rattle.listing.specs.declared.Listed.{Listed}
-use Rattle.listing.specs.Listing.{listCalm, listRows, listSent, listed}
+use Rattle.listing.specs.Listing.{listCalm, listRows, listSent}
 
 abbrev pub keptOf : ℕ → ℕ → OutList → List OutEntry
 keptOf t giveUp o = keepBy (young t giveUp) (out.abs o)
@@ -38,32 +36,6 @@ module _ (o : OutList) (a t timeout giveUp : ℕ) (w : out.Wf o) (m : ℕ) (e : 
 
   pub list-few : m ≤ 32
   list-few = omega (arith, length-keep (due t timeout) (keptOf t giveUp o), kept-few o t giveUp w)
-
-module _ (o k : OutList) (t giveUp : ℕ) (w : out.Wf o) (e : k ≡ out.repr (keptOf t giveUp o)) where
-  pub kept-wf : out.Wf k
-  kept-wf = wf-of k (keptOf t giveUp o) e (kept-few o t giveUp w)
-
-  kept-abs : out.abs k ≡ keptOf t giveUp o
-  kept-abs = abs-of k (keptOf t giveUp o) e (kept-few o t giveUp w)
-
-  module _ (a timeout at : ℕ) where
-    kept-rows : dueRows a t timeout (out.abs k) ≡ flat (listRows a t timeout giveUp o)
-    unfolding listRows
-    kept-rows = ap (λ (es : List OutEntry). dueRows a t timeout es) kept-abs
-
-    pub kept-room : (l : List ℕ) → at + length (flat (listRows a t timeout giveUp o)) ≤ length l → at + length (dueRows a t timeout (out.abs k)) ≤ length l
-    kept-room l h = omega (arith, ap length kept-rows)
-
-    pub list-done : (n : ℕ) (m : OutList) → n ≡ at + length (dueRows a t timeout (out.abs k)) → m ≡ out.repr (map (mark t timeout) (out.abs k))
-        → _≡_ {A = Listed} (record { out = m; next = n }) (listed a t timeout giveUp o at)
-    unfolding listSent
-    list-done n m p q =
-        let x = p ∙ ap (λ (v : List ℕ). at + length v) kept-rows in
-        let y = q ∙ ap (λ (es : List OutEntry). out.repr (map (mark t timeout) es)) kept-abs in
-        λ j. record { out = y j; next = x j }
-
-    pub list-lent : (l l₁ : List ℕ) → l₁ ≡ writtenAt at (dueRows a t timeout (out.abs k)) l → l₁ ≡ writtenAt at (flat (listRows a t timeout giveUp o)) l
-    list-lent l l₁ q = q ∙ ap (λ (v : List ℕ). writtenAt at v l) kept-rows
 
 -- ---- a list whose entries are neither given up nor due
 

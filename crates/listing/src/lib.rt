@@ -1,5 +1,6 @@
 // What a resend lists of one out list, and the list after it.
 use out_list::OutList;
+use packet::OutEntry;
 ghost use mathlib.Core.Path.{_≡_};
 ghost use Prim.Native.Nat.{_+_, _≤_};
 ghost use lib.ListN.{length};
@@ -16,6 +17,7 @@ pub struct Listed {
 
 // "drop entries whose age is not below give-up, then list, as address and handle, those with a handle whose time since last sent is at
 // least the timeout, setting last sent"
+// One pass in the list itself, since a second list would be copied: those that stay move to the front, and the places they leave are zero.
 pub fn resend_list(
     o: OutList,
     address: u32,
@@ -30,8 +32,29 @@ pub fn resend_list(
     ensures { λ r. ⌜ r ≡ listed address time timeout «give_up» o at ⌝ }
     ensures { λ r. ⌜ now (lent .exit) ≡ writtenAt at (flat (listRows address time timeout «give_up» o)) (now (lent .entry)) ⌝ }
 {
-    let kept = out_resends::drop_given_up(o, time, give_up);
-    let next = out_resends::write_due(kept, address, time, timeout, lent, at);
-    let marked = out_resends::mark_due(kept, time, timeout);
-    Listed { out: marked, next }
+    let n = o.len as usize;
+    let none = OutEntry::none();
+    let mut r = o;
+    let mut k: usize = 0;
+    let mut next = at;
+    let mut i: usize = 0;
+    while i < n {
+        let e = r.entries[i];
+        if out_resends::young(e, time, give_up) {
+            if out_resends::due(e, time, timeout) {
+                lent[next] = address;
+                lent[next + 1] = e.handle;
+                next += 2;
+            }
+            let m = out_resends::mark(e, time, timeout);
+            r.entries[k] = m;
+            k += 1;
+        }
+        if k <= i {
+            r.entries[i] = none;
+        }
+        i += 1;
+    }
+    r.len = k as u32;
+    Listed { out: r, next }
 }

@@ -1,16 +1,15 @@
-// What a resend asks of one out list, and does to it: which entries are given up or due, the rows of those due, and the list after it.
+// What a resend asks of an out list's entries, which are given up or due, and of the whole list: how many rows it has, and whether it stays.
 use out_list::OutList;
 use packet::OutEntry;
 ghost use mathlib.Core.Path.{_≡_};
-ghost use mathlib.Core.List.{map};
-ghost use mathlib.Core.Bool.{true, cond, _&&_};
-ghost use Prim.Native.Nat.{_+_, _-_, _≤_};
+ghost use mathlib.Core.Bool.{true, not, cond, _&&_};
+ghost use Prim.Native.Nat.{_-_};
 ghost use lib.ListN.{length};
 ghost use Rattle.lists.specs.Pad.{allb};
-ghost use Rattle.lists.specs.Find.{keepBy, writtenAt};
+ghost use Rattle.lists.specs.Find.{keepBy};
 ghost use Rattle.model.specs.Rust as Rust;
-ghost use Rattle.out_list.specs.Out.{abs, repr, Wf};
-ghost use Rattle.out_resends.specs.Resends.{dueRows, calm};
+ghost use Rattle.out_list.specs.Out.{abs, Wf};
+ghost use Rattle.out_resends.specs.Resends.{calm};
 
 // The time from since to time, and 0 where since is later.
 fn age(time: u64, since: u64) -> u64
@@ -19,15 +18,15 @@ fn age(time: u64, since: u64) -> u64
     if since <= time { time - since } else { 0 }
 }
 
-// Whether the entry's age is below give-up.
-fn young(e: OutEntry, time: u64, give_up: u64) -> bool
+// "drop entries whose age is not below give-up"
+pub fn young(e: OutEntry, time: u64, give_up: u64) -> bool
     ensures { λ r. ⌜ r ≡ Rust.young time «give_up» e ⌝ }
 {
     age(time, e.time) < give_up
 }
 
-// Whether the entry has a handle, and was last sent at least the timeout ago.
-fn due(e: OutEntry, time: u64, timeout: u64) -> bool
+// "those with a handle whose time since last sent is at least the timeout"
+pub fn due(e: OutEntry, time: u64, timeout: u64) -> bool
     ensures { λ r. ⌜ r ≡ Rust.due time timeout e ⌝ }
 {
     (e.held == 1) & (timeout <= age(time, e.sent))
@@ -39,7 +38,8 @@ fn due_young(e: OutEntry, time: u64, timeout: u64, give_up: u64) -> bool
     young(e, time, give_up) & due(e, time, timeout)
 }
 
-fn mark(e: OutEntry, time: u64, timeout: u64) -> OutEntry
+// ".. setting last sent"
+pub fn mark(e: OutEntry, time: u64, timeout: u64) -> OutEntry
     ensures { λ r. ⌜ r ≡ Rust.mark time timeout e ⌝ }
 {
     if due(e, time, timeout) {
@@ -48,44 +48,6 @@ fn mark(e: OutEntry, time: u64, timeout: u64) -> OutEntry
         return m;
     }
     e
-}
-
-// "drop entries whose age is not below give-up"
-pub fn drop_given_up(o: OutList, time: u64, give_up: u64) -> OutList
-    requires { ⌜ Wf o ⌝ }
-    ensures { λ r. ⌜ r ≡ repr (keepBy (Rust.young time «give_up») (abs o)) ⌝ }
-{
-    let n = o.len as usize;
-    let mut r = OutList::new();
-    let mut k: usize = 0;
-    let mut i: usize = 0;
-    while i < n {
-        let e = o.entries[i];
-        if young(e, time, give_up) {
-            r.entries[k] = e;
-            k += 1;
-        }
-        i += 1;
-    }
-    r.len = k as u32;
-    r
-}
-
-// ".. setting last sent"
-pub fn mark_due(o: OutList, time: u64, timeout: u64) -> OutList
-    requires { ⌜ Wf o ⌝ }
-    ensures { λ r. ⌜ r ≡ repr (map (Rust.mark time timeout) (abs o)) ⌝ }
-{
-    let n = o.len as usize;
-    let mut r = o;
-    let mut i: usize = 0;
-    while i < n {
-        let e = r.entries[i];
-        let m = mark(e, time, timeout);
-        r.entries[i] = m;
-        i += 1;
-    }
-    r
 }
 
 // How many will be due once those given up are dropped: a call that lacks room for its rows changes nothing, so it counts first. All
@@ -128,30 +90,13 @@ pub fn quiet(o: OutList, time: u64, timeout: u64, give_up: u64) -> bool
     good
 }
 
-// "list, as address and handle, those with a handle whose time since last sent is at least the timeout"
-pub fn write_due(
-    o: OutList,
-    address: u32,
-    time: u64,
-    timeout: u64,
-    rows: &mut [u32],
-    at: usize,
-) -> usize
-    requires { ⌜ Wf o ⌝ }
-    requires { ⌜ at + length (dueRows address time timeout (abs o)) ≤ length (now rows) ⌝ }
-    ensures { λ r. ⌜ (r ≡ at + length (dueRows address time timeout (abs o))) × (now (rows .exit) ≡ writtenAt at (dueRows address time timeout (abs o)) (now (rows .entry))) ⌝ }
+// Whether a resend changes the list. Packets sent join at the end, so the first entry is mostly the oldest, and is asked first.
+pub fn busy(o: OutList, time: u64, timeout: u64, give_up: u64) -> bool
+    ensures { λ r. ⌜ r ≡ not (allb (calm time timeout «give_up») (abs o)) ⌝ }
 {
-    let n = o.len as usize;
-    let mut k = at;
-    let mut i: usize = 0;
-    while i < n {
-        let e = o.entries[i];
-        if due(e, time, timeout) {
-            rows[k] = address;
-            rows[k + 1] = e.handle;
-            k += 2;
-        }
-        i += 1;
+    let first = o.entries[0];
+    if !stays(first, 0 < o.len, time, timeout, give_up) {
+        return true;
     }
-    k
+    !quiet(o, time, timeout, give_up)
 }

@@ -21,7 +21,7 @@ use Rattle.table.specs.declared.Table.{Table}
 use Rattle.table.specs.Table.{abs, repr, wfb}
 use Rattle.table.proofs.Test.{form-offcount, form-oncount}
 use Rattle.calls.specs.declared.Resent.{Resent}
-use Rattle.calls.specs.Calls.{Outcome, tableReply, called, resentOf, resendsOf, resendsLent}
+use Rattle.calls.specs.Calls.{TableReply, tableReply, called, resentOf, resendsOf, resendsLent}
 use Rattle.table.specs.Table.{timeSet}
 use Rattle.calls.proofs.Called.{called-refused, called-granted, tested}
 use Rattle.calls.proofs.Timed.{set-form}
@@ -52,11 +52,11 @@ module _ (t : Table) (time timeout giveUp : ℕ) (l : List ℕ) (x : Bool) (e : 
 
   pub unformed-is : _≡_ {A = Resent} (record { table = t; code = 1; rows = 0 }) (resendsOf t time timeout giveUp l)
   unfolding resendsOf
-  unformed-is = ap (λ (o : Outcome). resentOf o) (sym unformed)
+  unformed-is = ap (λ (o : TableReply). resentOf o) (sym unformed)
 
   pub unformed-lent : l ≡ resendsLent t time timeout giveUp l
   unfolding resendsLent
-  unformed-lent = ap (λ (o : Outcome). lent (o .answer) l) (sym unformed)
+  unformed-lent = ap (λ (o : TableReply). lent (o .answer) l) (sym unformed)
 
 -- ---- the rows, counted
 
@@ -115,11 +115,11 @@ module _ (t : Table) (time timeout giveUp : ℕ) (l : List ℕ) (x : Bool) (e : 
 
   answer-is : (r : Resent) → r ≡ resentOf (tableReply answered) → r ≡ resendsOf t time timeout giveUp l
   unfolding resendsOf
-  answer-is r q = q ∙ ap (λ (o : Outcome). resentOf o) (sym granted)
+  answer-is r q = q ∙ ap (λ (o : TableReply). resentOf o) (sym granted)
 
   lent-is : (out : List ℕ) → out ≡ lent (answered .answer) l → out ≡ resendsLent t time timeout giveUp l
   unfolding resendsLent
-  lent-is out q = q ∙ ap (λ (o : Outcome). lent (o .answer) l) (sym granted)
+  lent-is out q = q ∙ ap (λ (o : TableReply). lent (o .answer) l) (sym granted)
 
   abbrev places : Bool
   places = leb (length (flat (rows t time timeout giveUp))) (length l)

@@ -52,7 +52,7 @@ pub fn take_resends(t: Table, time: u64, timeout: u64, give_up: u64, lent: &mut 
     ensures { λ r. ⌜ r ≡ resendsOf t time timeout «give_up» (now (lent .entry)) ⌝ }
     ensures { λ r. ⌜ now (lent .exit) ≡ resendsLent t time timeout «give_up» (now (lent .entry)) ⌝ }
 {
-    if !table::well_formed(t) {
+    if !table_test::well_formed(t) {
         return refused(t, 1);
     }
     if time < t.latest {

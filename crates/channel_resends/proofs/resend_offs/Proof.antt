@@ -1,4 +1,5 @@
 use mathlib.Core.Logic.{⊎-elim}
+use mathlib.Core.Path.{refl, sym, _∙_}
 use Prim.Native.Nat.{_-_}
 use Rattle.quiet.specs.Quiet.{offRows}
 use Rattle.quiet.proofs.Channels.{offKind}
@@ -23,8 +24,8 @@ mul-c c = search places
 array-copy-out-c : tie.Need-array-copy-out-c Inv-loop μ-loop
 array-copy-out-c c = search places
 
-quiet-requires : tie.Need-quiet-requires Inv-loop μ-loop
-quiet-requires c κs = search places
+busy-requires : tie.Need-busy-requires Inv-loop μ-loop
+busy-requires c κs = search places
 
 resend-list-requires : tie.Need-resend-list-requires Inv-loop μ-loop
 resend-list-requires c κs =
@@ -52,7 +53,7 @@ loop-again c =
     let h = c .before .before .before .before .loop-test .taken in
     ⊎-elim
     (λ w. sent-went offKind _ _ _ _ _ _ v _ _ _ _ _ _ s _ _ _ _ _ _ h (w .2 .ensures .0) (w .2 .ensures .1) (w .6) (w .7) (w .8))
-    (λ w. sent-stays offKind _ _ _ _ _ _ v _ _ _ _ _ _ s _ _ _ _ _ h (c .before .quiet .ensures) (w .0 .left) (w .1) (w .2) (w .3))
+    (λ w. sent-stays offKind _ _ _ _ _ _ v _ _ _ _ _ _ s _ _ _ _ _ h refl (sym (c .before .busy .ensures) ∙ w .0 .left) (w .1) (w .2) (w .3))
     (c .if1 .came)
 
 same-length : tie.Need-same-length Inv-loop μ-loop
@@ -75,7 +76,7 @@ resend-offs-spec =
     loop-holds
     mul-c
     array-copy-out-c
-    quiet-requires
+    busy-requires
     resend-list-requires
     mul-r
     array-set-from-r
