@@ -15,9 +15,6 @@ takenOf len = cond (leb len 8) len 8
 abbrev pub countedOf : ℕ → ℕ
 countedOf len = cond (leb len 8) len 9
 
-abbrev pub emptyRecord : Record
-emptyRecord = noRecord
-
 abbrev pub startedOf : ℕ → Batch
 startedOf len = record { count = countedOf len; records = replicate 8 noRecord }
 

@@ -1,41 +1,23 @@
 -- What each return of the small functions owes, over plain values. Assumes nothing.
-use mathlib.Core.Path.{_≡_, refl, ap, sym, subst, _∙_}
-use mathlib.Core.Bool.{Bool, true, false, not, cond}
-use mathlib.Core.List.{List}
+use mathlib.Core.Path.{_≡_, ap, sym, subst, _∙_}
+use mathlib.Core.Bool.{Bool, true, false, not}
 use Prim.Native.Nat.{ℕ, _+_, _≤_, _<_}
-use native.Mathlib.Omega.{arith}
 use borrow.Author.Needs.{needs}
 use borrow.Author.Tests.{lt-ltb, le-ltb, eq-eqb, ne-eqb, not-true, not-false}
-use lib.Dec.{ltb, leb, eqb}
+use lib.Dec.{leb}
 use lib.ListN.{take}
 use Rattle.lists.specs.Find.{slotOf}
 use Rattle.packet.specs.declared.Record.{Record}
-use Rattle.packet.specs.declared.View.{View}
-use Rattle.packet.specs.Data.{isSet, wellMade, indexOf, versionOf}
+use Rattle.packet.specs.Data.{wellMade, indexOf, versionOf}
 use Rattle.channel.specs.declared.OffChannel.{OffChannel}
 use Rattle.channel.specs.declared.OnChannel.{OnChannel}
 use Rattle.channel.specs.Channel.{WfOff, WfOn, keyedOn, keyedOff}
 use Rattle.table.specs.declared.Keys.{Keys}
-use Rattle.table.specs.declared.OnKey.{OnKey}
 use Rattle.table.specs.declared.Table.{Table}
 use Rattle.table.specs.Keys.{isAddress, isKey, keysOf}
-use Rattle.calls.specs.Answers.{noView}
 use Rattle.delivery.specs.declared.Aim.{Aim}
 use Rattle.delivery.specs.declared.Beside.{Beside}
-use Rattle.delivery.specs.declared.Start.{Start}
-use Rattle.delivery.specs.declared.Tally.{Tally}
-use Rattle.delivery.specs.Delivery.{begun, tallied, placed, aimed, openedOn, openedOff, inUse, withOnKey, withOffKey, besideOf, withOn, withOff, refusal, started}
-
--- ---- the answer so far
-
-pub none-done : (n : ℕ) (v : View) → v ≡ noView → _≡_ {A = Tally} (record { code = n; count = 0; view = v }) (begun n)
-none-done n v e = λ k. record { code = n; count = 0; view = e k }
-
-pub then-granted : (d : Tally) (n : ℕ) (v : View) → n ≡ 0 → _≡_ {A = Tally} (record { code = 0; count = d .count + 1; view = v }) (tallied n v d)
-then-granted d n v e = ap (λ (k : ℕ). tallied k v d) (sym e)
-
-pub then-refused : (d : Tally) (n : ℕ) (v w : View) → (n ≡ 0 → ⊥) → w ≡ noView → _≡_ {A = Tally} (record { code = n; count = d .count; view = w }) (tallied n v d)
-then-refused d n v w h e = let q : eqb n 0 ≡ false = ne-eqb n 0 h in rw (q, e)
+use Rattle.delivery.specs.Delivery.{placed, aimed, openedOn, openedOff, inUse, withOnKey, withOffKey, besideOf, withOn, withOff}
 
 -- ---- the place of a record's channel
 
@@ -88,7 +70,7 @@ opened-on-wf d c new a r w e = subst (λ (x : OnChannel). WfOn x) (sym e) (on-ke
 pub opened-off-wf : (d c : OffChannel) (new : Bool) (a : ℕ) → WfOff c → d ≡ openedOff new a c → WfOff d
 opened-off-wf d c new a w e = subst (λ (x : OffChannel). WfOff x) (sym e) (off-keyed-wf new a c w)
 
--- ---- what is stored, and 1 to 3
+-- ---- what is stored
 
 pub one-more : (n : ℕ) (new : Bool) → new ≡ true → n + 1 ≡ inUse n new
 one-more n new e = rw e
@@ -107,24 +89,4 @@ pub with-off-done : (s : Beside) (at a p n : ℕ) (new : Bool) → n ≡ inUse (
     → _≡_ {A = Beside} (record { offcount = n; oncount = s .oncount; prefix = p; keys = withOffKey (s .keys) at a }) (withOff s at a new p)
 with-off-done s at a p n new e = λ j. record { offcount = e j; oncount = s .oncount; prefix = p; keys = withOffKey (s .keys) at a }
 
-pub refused-one : (good made : Bool) (latest time : ℕ) → not good ≡ true → 1 ≡ refusal good made latest time
-refused-one good made latest time e = rw (not-true good e)
-
-pub refused-two : (good made : Bool) (latest time : ℕ) → not good ≡ false → not made ≡ true → 2 ≡ refusal good made latest time
-refused-two good made latest time e f = rw (not-false good e, not-true made f)
-
-pub refused-three : (good made : Bool) (latest time : ℕ) → not good ≡ false → not made ≡ false → time < latest → 3 ≡ refusal good made latest time
-refused-three good made latest time e f h = rw (not-false good e, not-false made f, lt-ltb time latest h)
-
-pub refused-none : (good made : Bool) (latest time : ℕ) → not good ≡ false → not made ≡ false → latest ≤ time → 0 ≡ refusal good made latest time
-refused-none good made latest time e f h = rw (not-false good e, not-false made f, le-ltb time latest h)
-
--- ---- what the loop begins with, by the delivery's own refusal
-
-pub start-refused : (n latest time count : ℕ) (d : Tally) → (n ≡ 0 → ⊥) → d ≡ begun n → _≡_ {A = Start} (record { latest = latest; n = 0; done = d }) (started n latest time count)
-start-refused n latest time count d h e = let q : eqb n 0 ≡ false = ne-eqb n 0 h in rw (q, e)
-
-pub start-granted : (n latest time count : ℕ) (d : Tally) → n ≡ 0 → d ≡ begun n → _≡_ {A = Start} (record { latest = time; n = count; done = d }) (started n latest time count)
-start-granted n latest time count d h e = let q : eqb n 0 ≡ true = eq-eqb n 0 h in rw (q, e)
-
-pub ruleset small = (none-done, then-granted, then-refused, placed-yes, placed-no, aimed-malformed, aimed-at-on, aimed-at-off, opened-on-old, opened-on-new, opened-off-old, opened-off-new, opened-on-wf, opened-off-wf, one-more, no-more, of-done, with-on-done, with-off-done, refused-one, refused-two, refused-three, refused-none, start-refused, start-granted, needs)
+pub ruleset small = (placed-yes, placed-no, aimed-malformed, aimed-at-on, aimed-at-off, opened-on-old, opened-on-new, opened-off-old, opened-off-new, opened-on-wf, opened-off-wf, one-more, no-more, of-done, with-on-done, with-off-done, needs)

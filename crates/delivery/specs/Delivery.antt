@@ -1,50 +1,21 @@
--- The parts of a delivery, as the code takes them: the answer so far, where a record's channel stands, what is stored, and refusals 1 to 3.
+-- The parts of a delivery that are the table's, as the code takes them: where a record's channel stands, and what is stored.
 use mathlib.Core.Bool.{Bool, true, false, cond}
-use mathlib.Core.List.{List, [], _∷_}
+use mathlib.Core.List.{List}
 use Prim.Native.Nat.{ℕ, _+_}
-use lib.Dec.{ltb, leb, eqb}
+use lib.Dec.{ltb, leb}
 use lib.ListN.{take, set}
 use Rattle.lists.specs.Find.{slotOf}
 use Rattle.packet.specs.declared.Record.{Record}
-use Rattle.packet.specs.declared.View.{View}
 use Rattle.packet.specs.Data.{isSet, wellMade, indexOf, versionOf}
-use Rattle.model.specs.Refusals.{number, notWellFormed, outOfRange, timeBelow, tableFull}
-use Rattle.model.specs.Port.{Result, takes, refuses}
+use Rattle.model.specs.Refusals.{number, outOfRange, tableFull}
 use Rattle.channel.specs.declared.OffChannel.{OffChannel}
 use Rattle.channel.specs.declared.OnChannel.{OnChannel}
 use Rattle.channel.specs.Channel.{keyedOn, keyedOff}
 use Rattle.table.specs.declared.Keys.{Keys}
 use Rattle.table.specs.declared.Table.{Table}
 use Rattle.table.specs.Keys.{isAddress, isKey, keysOf}
-use Rattle.calls.specs.declared.Delivered.{Delivered}
-use Rattle.calls.specs.Answers.{noView}
 use Rattle.delivery.specs.declared.Aim.{Aim}
 use Rattle.delivery.specs.declared.Beside.{Beside}
-use Rattle.delivery.specs.declared.Start.{Start}
-use Rattle.delivery.specs.declared.Tally.{Tally}
-
--- ---- the answer so far
-
--- of no records, as the model answers them
-abbrev pub noTally : Tally
-noTally = record { code = number outOfRange; count = 0; view = noView }
-
--- before the first record, by the delivery's own refusal
-abbrev pub begun : ℕ → Tally
-begun n = record { code = n; count = 0; view = noView }
-
--- one more record, by its code: 0 where it is granted
-abbrev pub tallied : ℕ → View → Tally → Tally
-tallied n v a = record { code = n; count = cond (eqb n 0) (a .count + 1) (a .count); view = cond (eqb n 0) v noView }
-
--- and by its result
-abbrev pub next : Tally → Result → Tally
-next a (takes v) = record { code = 0; count = a .count + 1; view = v }
-next a (refuses x) = record { code = number x; count = a .count; view = noView }
-
-unfoldable pub after : Tally → List Result → Tally
-after a [] = a
-after a (x ∷ xs) = after (next a x) xs
 
 -- ---- where a record's channel stands
 
@@ -107,20 +78,3 @@ changed t latest s offs ons =
       offs = offs;
       ons = ons;
     }
-
-abbrev pub answered : Table → Tally → Delivered
-answered t a = record { table = t; code = a .code; count = a .count; view = a .view }
-
--- by the delivery's own refusal: the latest time, and how many records are looked at
-abbrev pub latestAfter : ℕ → ℕ → ℕ → ℕ
-latestAfter code latest time = cond (eqb code 0) time latest
-
-abbrev pub turns : ℕ → ℕ → ℕ
-turns code count = cond (eqb code 0) count 0
-
-abbrev pub started : ℕ → ℕ → ℕ → ℕ → Start
-started code latest time count = record { latest = latestAfter code latest time; n = turns code count; done = begun code }
-
--- 1 to 3: the table is well formed, the delivery is well made, and its time is not below the latest
-abbrev pub refusal : Bool → Bool → ℕ → ℕ → ℕ
-refusal good made latest time = cond good (cond made (cond (ltb time latest) (number timeBelow) 0) (number outOfRange)) (number notWellFormed)

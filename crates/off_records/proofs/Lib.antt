@@ -1,2 +1,2 @@
 mod Acked
-mod Off
+pub mod Off

@@ -8,6 +8,7 @@ use borrow.Author.Needs.{needs}
 use borrow.Author.Tests.{eq-eqb, ne-eqb, ltb-true, ltb-false}
 use lib.Dec.{ltb}
 use lib.ListN.{length, length-append}
+use Rattle.lists.proofs.Pad.{never}
 use Rattle.packet.specs.declared.Packet.{Packet}
 use Rattle.packet.specs.declared.Record.{Record}
 use Rattle.packet.specs.Data.{isSet, packet, singleAcks}
@@ -24,8 +25,8 @@ use Rattle.ack_queue.specs.declared.AckQueue.{AckQueue}
 use Rattle.ack_queue.specs.Queue as Acks
 use Rattle.ack_queue.proofs.Form as Queues
 use Rattle.bundles.specs.Bundles as Made
-use Rattle.fragments.specs.declared.Added.{Added}
-use Rattle.fragments.specs.Groups.{dataOf, fitsLists, answer, added}
+use Rattle.group_rule.specs.declared.Added.{Added}
+use Rattle.group_rule.specs.Rule.{dataOf, fitsLists, within, answer, added}
 use Rattle.fragments.specs.Groups as Frags
 use Rattle.channel.specs.declared.OffChannel.{OffChannel}
 use Rattle.channel.specs.declared.OffStep.{OffStep}
@@ -35,7 +36,7 @@ use Rattle.rules.specs.Rules.{acked}
 use Rattle.rules.proofs.Room.{no-room-off, loose-room-off, loose-over-off}
 use Rattle.rules.proofs.Frame.{beside, added-beside, zero-fits, packet-zero}
 use Rattle.records.specs.Records.{drops}
-use Rattle.records.proofs.Drops.{never, added-zero}
+use Rattle.records.proofs.Drops.{added-zero}
 use Rattle.off_records.specs.OffRecords.{offAcked, offQueued, offCode}
 use Rattle.off_records.proofs.Acked.{single-alone}
 
@@ -73,7 +74,7 @@ module _ (c : OffChannel) (r : Record) (t : ℕ) (w : WfOff c) where
   said-code k h beyond = refl
   said-code k h (done d) = at (fitsLists d) ∙ sym (ap (λ (z : Bool). roomOff z (withOff k d) c .code) (room-off k d h))
     where
-      at : (b : Bool) → Frags.within b d (c .groups) (c .bundles) .code ≡ roomOff b (withOff k d) c .code
+      at : (b : Bool) → within b d (c .groups) (c .bundles) .code ≡ roomOff b (withOff k d) c .code
       at true = refl
       at false = refl
 
@@ -98,7 +99,7 @@ module _ (c : OffChannel) (r : Record) (t : ℕ) (w : WfOff c) where
     taken-off beyond x h = absurd (omega (arith, h))
     taken-off (done d) x h =
         let b : fitsLists d ≡ true = zero-fits (fitsLists d) d (c .groups) (c .bundles) h in
-        let y : a ≡ Frags.within true d (c .groups) (c .bundles) = x ∙ ap (λ (u : Bool). Frags.within u d (c .groups) (c .bundles)) b in
+        let y : a ≡ within true d (c .groups) (c .bundles) = x ∙ ap (λ (u : Bool). within u d (c .groups) (c .bundles)) b in
         let o : l ≡ Out.repr (ackSingles (singleAcks r) (Out.abs (c .out))) = le ∙ ap Out.repr (single-alone r (Out.abs (c .out)) i) in
         (λ k. record { address = c .address; out = o k; acks = w .acks k; groups = y k .groups; bundles = y k .bundles })
         ∙ sym (said-left (Acks.abs (c .acks)) (Queues.wf-le (c .acks) (w .acks)) d b)
@@ -128,7 +129,7 @@ module _ (c : OffChannel) (r : Record) (t : ℕ) (w : WfOff c) where
   refused-too beyond n = refl
   refused-too (done d) n = at (fitsLists d) refl n
     where
-      at : (b : Bool) → fitsLists d ≡ b → (Frags.within b d (c .groups) (c .bundles) .code ≡ 0 → ⊥) → Frags.within b d (c .groups) (c .bundles) .code ≡ roomOff (fitsOff (withOff more d)) (withOff more d) c .code
+      at : (b : Bool) → fitsLists d ≡ b → (within b d (c .groups) (c .bundles) .code ≡ 0 → ⊥) → within b d (c .groups) (c .bundles) .code ≡ roomOff (fitsOff (withOff more d)) (withOff more d) c .code
       at true g x = absurd (x refl)
       at false g x = sym (ap (λ (y : Bool). roomOff y (withOff more d) c .code) (loose-over-off (withOff more d) g))
 
@@ -249,10 +250,10 @@ module _ (c : OffChannel) (r : Record) (t : ℕ) (w : WfOff c) where
       where
         room : (b : Bool) (x : model.OffChannel) → drops (roomOff b x c .code) ≡ false → roomOff b x c .code ≡ 0
         room true x n = refl
-        room false x n = never n
+        room false x n = never (sym n)
 
         at : (s : Stored) → drops (stepOff (saidOff c r t w (more c r t w) s) c .code) ≡ false → stepOff (saidOff c r t w (more c r t w) s) c .code ≡ 0
-        at beyond n = never n
+        at beyond n = never (sym n)
         at (done d) n = room (fitsOff (withOff c r t w (more c r t w) d)) (withOff c r t w (more c r t w) d) n
 
     pub left-off-reliable : (d : OffChannel) → r .reliable ≡ 1 → (r .haslast ≡ 1 → ⊥) → d ≡ stepOff (looseOff t r (offQueued r (offAcked r (absOff c)))) c .channel → d ≡ stepOff (offRecord t r (absOff c)) c .channel

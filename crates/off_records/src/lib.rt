@@ -1,12 +1,11 @@
 // One record on its off-channel (Rust: accept_inner), by value: the refusal's number or 0, and the channel after it.
 use channel::OffChannel;
-use channel::OffStep;
 use packet::Record;
 ghost use mathlib.Core.Path.{_≡_};
 ghost use mathlib.Core.Bool.{true, false};
 ghost use Rattle.packet.specs.Data.{isSet, wellMade, packet};
 ghost use Rattle.model.specs.Record.{offRecord, looseOff};
-ghost use Rattle.fragments.specs.Groups as Frags;
+ghost use Rattle.group_rule.specs.Rule.{added};
 ghost use Rattle.channel.specs.Channel.{absOff, reprOff, WfOff, stepOff};
 ghost use Rattle.records.specs.Records.{drops};
 ghost use Rattle.off_records.specs.OffRecords as Spec;
@@ -47,13 +46,13 @@ fn loose_off(c: OffChannel, r: Record, time: u64) -> OffChannel
     requires { ⌜ WfOff c ⌝ }
     requires { ⌜ wellMade r ≡ true ⌝ }
     requires { ⌜ isSet (r .hascumulative) ≡ false ⌝ }
-    requires { ⌜ Frags.added time (packet r) (c .groups) (c .bundles) .code ≡ 0 ⌝ }
+    requires { ⌜ added time (packet r) (c .groups) (c .bundles) .code ≡ 0 ⌝ }
     ensures { λ d. ⌜ d ≡ stepOff (looseOff time r (Spec.offAcked r (absOff c))) c .channel ⌝ }
 {
     let groups = c.groups;
     let made = c.bundles;
     let p = r.packet();
-    let a = fragments::add_granted(groups, made, p, time);
+    let a = group_rule::add_granted(groups, made, p, time);
     let o = c.out;
     let out = rules::acked(o, r);
     let mut d = c;

@@ -3,10 +3,10 @@
 use mathlib.Core.Path.{_≡_, refl, ap, sym, _∙_}
 use mathlib.Core.Bool.{Bool, true, false, cond}
 use mathlib.Core.Logic.{_⊎_, inl, inr}
-use Prim.Native.Nat.{ℕ, _≤_, _<_}
+use Prim.Native.Nat.{ℕ, _<_}
 use native.Mathlib.Omega.{arith}
 use lib.Dec.{ltb, leb}
-use lib.ListN.{length, take}
+use lib.ListN.{take}
 use borrow.Author.Tests.{ltb-true, lt-ltb, eq-eqb, ne-eqb}
 use Rattle.lists.specs.Find.{slotOf}
 use Rattle.lists.proofs.Slot.{slot-room}
@@ -18,7 +18,7 @@ use Rattle.table.specs.declared.Keys.{Keys}
 use Rattle.table.specs.declared.Table.{Table}
 use Rattle.table.specs.Keys.{isAddress, isKey, keysOf}
 use Rattle.table.specs.Table.{abs, Wf}
-use Rattle.table.proofs.Laws.{onPlace, offPlace}
+use Rattle.table.specs.Places.{placeOn, placeOff}
 use Rattle.table.proofs.Places.{few-offs, few-ons, off-slot-at, on-slot-at}
 use Rattle.delivery.specs.declared.Aim.{Aim}
 use Rattle.delivery.specs.Delivery.{placed, aimed}
@@ -46,7 +46,7 @@ pub record OnAim (u : Table) (a : ℕ) (r : Record) (aim : Aim) : Type 0 where
   pub made : wellMade r ≡ true
   pub on : isSet (r .on) ≡ true
   pub place : hasPlace true a (indexOf r) (abs u .protocol) ≡ true
-  pub at : aim .at ≡ onPlace a (indexOf r) (abs u)
+  pub at : aim .at ≡ placeOn a (indexOf r) (abs u)
   pub new : aim .new ≡ leb (u .oncount) (aim .at)
   pub room : aim .at < 8
 
@@ -54,7 +54,7 @@ pub record OffAim (u : Table) (a : ℕ) (r : Record) (aim : Aim) : Type 0 where
   pub made : wellMade r ≡ true
   pub off : isSet (r .on) ≡ false
   pub place : hasPlace false a (indexOf r) (abs u .protocol) ≡ true
-  pub at : aim .at ≡ offPlace a (abs u)
+  pub at : aim .at ≡ placeOff a (abs u)
   pub new : aim .new ≡ leb (u .offcount) (aim .at)
   pub room : aim .at < 4
 
@@ -75,10 +75,10 @@ module _ (u : Table) (keys : Keys) (wf : Wf u) (keyed : keys ≡ keysOf u) (a : 
   abbrev offSlot : ℕ
   offSlot = slotOf (isAddress a) (take (u .offcount) (keys .offs))
 
-  on-slot-of : onSlot ≡ onPlace a (indexOf r) (abs u)
+  on-slot-of : onSlot ≡ placeOn a (indexOf r) (abs u)
   on-slot-of = ap (λ (l : Keys). slotOf (isKey a (indexOf r)) (take (u .oncount) (l .ons))) keyed ∙ on-slot-at u wf a (indexOf r)
 
-  off-slot-of : offSlot ≡ offPlace a (abs u)
+  off-slot-of : offSlot ≡ placeOff a (abs u)
   off-slot-of = ap (λ (l : Keys). slotOf (isAddress a) (take (u .offcount) (l .offs))) keyed ∙ off-slot-at u wf a
 
   on-room : hasPlace true a (indexOf r) (abs u .protocol) ≡ ltb onSlot 8

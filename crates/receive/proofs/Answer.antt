@@ -1,17 +1,15 @@
 -- The answer so far, carried through all results from the first, is the model's answer of the delivery. Assumes nothing.
-use mathlib.Core.Path.{_≡_, refl, ap, sym, _∙_}
+use mathlib.Core.Path.{_≡_, refl, ap, _∙_}
 use mathlib.Core.List.{List, [], _∷_}
-use Prim.Native.Nat.{ℕ, suc, _+_}
+use Prim.Native.Nat.{ℕ, _+_}
 use native.Mathlib.Omega.{arith}
 use Rattle.model.specs.Refusals.{number}
-use Rattle.model.specs.Calls.{Answer}
 use Rattle.model.specs.Port.{Result, takes, refuses, Played, playedReply, countOne, count, lastResult, deliveryAnswer}
 use Rattle.table.specs.Table.{repr}
-use Rattle.calls.specs.declared.Delivered.{Delivered}
-use Rattle.calls.specs.Answers.{noView, codeOf, countOf, viewOf}
+use Rattle.calls.specs.Answers.{noView}
 use Rattle.calls.specs.Calls.{tableReply, deliveredOf}
-use Rattle.delivery.specs.declared.Tally.{Tally}
-use Rattle.delivery.specs.Delivery.{noTally, next, after, answered}
+use Rattle.tally.specs.declared.Tally.{Tally}
+use Rattle.tally.specs.Tally.{noTally, next, after, answered}
 
 -- a result with a count
 abbrev tallyOf : Result → ℕ → Tally

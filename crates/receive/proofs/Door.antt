@@ -1,35 +1,31 @@
 -- The tests of a delivery, 1 to 3, and what is left where they pass. Assumes nothing.
 use mathlib.Core.Path.{_≡_, refl, ap, sym, subst, _∙_}
-use mathlib.Core.Bool.{Bool, true, false, cond, _&&_, and-false}
-use mathlib.Core.List.{List, [], _∷_}
-use Prim.Native.Nat.{ℕ, zero, suc, _-_, _≤_, _<_}
+use mathlib.Core.Bool.{Bool, true, false, cond}
+use Prim.Native.Nat.{ℕ, _-_, _≤_}
 use native.Mathlib.Omega.{arith}
-use borrow.Author.Needs.{needs}
 use borrow.Author.Tests.{le-leb, lt-leb, leb-true, ltb-true, ltb-false, eq-eqb, ne-eqb, eqb-true, eqb-false}
 use lib.Dec.{ltb, leb, eqb}
-use lib.ListN.{length, getD}
-use Rattle.lists.specs.Pad.{pad}
-use Rattle.lists.proofs.Pad.{never, and-left, length-of-map, getD-default, length-pad, getD-pad}
-use Rattle.packet.specs.declared.Record.{Record}
-use Rattle.packet.specs.Data.{noRecord, wellMade}
+use lib.ListN.{length}
+use Rattle.lists.proofs.Pad.{never, and-left, length-pad}
+use Rattle.packet.specs.Data.{noRecord}
 use Rattle.model.specs.State as model
-use Rattle.model.specs.Refusals.{notWellFormed, outOfRange, timeBelow}
-use Rattle.model.specs.Calls.{Call, accept}
-use Rattle.model.specs.Port.{Reply, reply, acceptS, deliver, deliveryMade, lastMade, onTime, play, playedReply}
-use Rattle.model.specs.Wellformed.{wellFormed}
-use Rattle.kept.proofs.Table.{well-facts, well-test, well-later}
+use Rattle.model.specs.Calls.{accept}
+use Rattle.model.specs.Port.{reply, acceptS, deliver, deliveryMade, lastMade, onTime, play, playedReply}
+use Rattle.model.proofs.Wellformed.{well-facts, well-test}
+use Rattle.kept.proofs.Table.{well-later}
 use Rattle.table.specs.declared.Table.{Table}
 use Rattle.table.specs.Table.{abs, repr, Wf, wfb, timeSet}
 use Rattle.table.proofs.Test.{test-wf}
 use Rattle.calls.specs.declared.Batch.{Batch}
 use Rattle.calls.specs.declared.Delivered.{Delivered}
 use Rattle.calls.specs.Answers.{noView}
-use Rattle.calls.specs.Calls.{Outcome, tableReply, called, recordsOf, deliveredOf, accepted}
+use Rattle.calls.specs.Calls.{TableReply, tableReply, recordsOf, deliveredOf, accepted}
 use Rattle.calls.proofs.Called.{called-refused, called-granted}
 use Rattle.delivery.specs.declared.Beside.{Beside}
-use Rattle.delivery.specs.declared.Start.{Start}
-use Rattle.delivery.proofs.Made.{batch-none}
-use Rattle.delivery.specs.Delivery.{besideOf, refusal, begun, answered, started}
+use Rattle.tally.specs.declared.Start.{Start}
+use Rattle.tally.proofs.Made.{batch-none}
+use Rattle.delivery.specs.Delivery.{besideOf}
+use Rattle.tally.specs.Tally.{refusal, begun, answered, started}
 use Rattle.receive.specs.Receive.{delivery, Begins, deliveredFrom}
 
 -- ---- the whole
@@ -68,12 +64,12 @@ module _ (t : Table) (time a : ℕ) (b : Batch) where
   accepted-is : (made : Bool) → deliveryMade (recordsOf b) ≡ made → (x : Bool) → ltb time (t .latest) ≡ x → wfb t ≡ true → accepted t time a b ≡ judged made (cond x false true)
   unfolding accepted reply acceptS
   accepted-is made m x q h =
-      ap (λ (o : Outcome). deliveredOf o) (called-granted (accept time a (recordsOf b)) t h)
+      ap (λ (o : TableReply). deliveredOf o) (called-granted (accept time a (recordsOf b)) t h)
       ∙ (λ k. judged (m k) (on-time x q k))
 
   refused-one : wfb t ≡ false → _≡_ {A = Delivered} (record { table = t; code = 1; count = 0; view = noView }) (accepted t time a b)
   unfolding accepted
-  refused-one q = sym (ap (λ (o : Outcome). deliveredOf o) (called-refused (accept time a (recordsOf b)) t q))
+  refused-one q = sym (ap (λ (o : TableReply). deliveredOf o) (called-refused (accept time a (recordsOf b)) t q))
 
   module _ (good made : Bool) (n : ℕ) (g : good ≡ wfb t) (m : made ≡ deliveryMade (recordsOf b)) (e : n ≡ refusal good made (t .latest) time) where
     refused-is : (n ≡ 0 → ⊥) → answered t (begun n) ≡ accepted t time a b

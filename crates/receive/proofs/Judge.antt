@@ -12,9 +12,9 @@ use Rattle.channel.specs.declared.OffChannel.{OffChannel}
 use Rattle.channel.specs.declared.OnChannel.{OnChannel}
 use Rattle.channel.specs.Channel.{absOff, reprOff, absOn, reprOn, roomOff, stepOff, roomOn, stepOn}
 use Rattle.records.specs.Records.{drops}
-use Rattle.delivery.specs.declared.Tally.{Tally}
-use Rattle.delivery.specs.Delivery.{tallied, next}
-use Rattle.delivery.proofs.Numbers.{number-some}
+use Rattle.tally.specs.declared.Tally.{Tally}
+use Rattle.tally.specs.Tally.{tallied, next}
+use Rattle.tally.proofs.Numbers.{number-some}
 use Rattle.receive.proofs.Step.{putOnP, putOffP, roomedOn, roomedOff, judgedOn, judgedOff, Each, OnKeyed, OffKeyed}
 
 -- 5 to 9 keep the prefix and the channel

@@ -1,15 +1,13 @@
 -- One record of a delivery, by its channel alone: the model's step on the whole state is the outcome on the channel, put back at its
 -- place with the prefix, or nothing at 10 and 11. Assumes nothing.
-use mathlib.Core.Path.{_≡_, refl, ap, sym, subst, _∙_}
-use mathlib.Core.Bool.{Bool, true, false, cond, _&&_, _||_}
-use mathlib.Core.List.{List, [], _∷_}
+use mathlib.Core.Path.{_≡_, refl, ap, subst, _∙_}
+use mathlib.Core.Bool.{Bool, true, false, _||_}
 use Prim.Native.Nat.{ℕ}
 use lib.Dec.{ltb, eqb}
 use borrow.Author.Tests.{eq-eqb}
 use Rattle.lists.specs.Find.{findBy, putBy}
 use Rattle.lists.proofs.Find.{find-put}
 use Rattle.packet.specs.declared.Record.{Record}
-use Rattle.packet.specs.declared.View.{View}
 use Rattle.packet.specs.Data.{isSet, wellMade, indexOf, versionOf}
 use Rattle.model.specs.State.{OffChannel, OnChannel, Protocol, State, withPrefix, withProtocol, isOn, isOff, hasOn, hasOff, offAt, onAt, putOff, putOn, newOn, newOff, offView, onView}
 use Rattle.seq.specs.Num.{sub}
@@ -21,7 +19,7 @@ use Rattle.model.specs.Refusals.{Refusal, added, outOfRange, tableFull, beyondG
 use Rattle.model.specs.Record.{Outcome, granted, rejected, farFragment, bareRun, ackedOn, ackedOff, queued, observedIf, reliableOf, withReliable, runOf, reliableIn, storedOn, storedOff, looseOn, looseOff, lastGiven, rulesOn, rulesOff, current, onRecord, cumulativeGiven, offRecord}
 use Rattle.model.specs.Room.{fitsOff, fitsOn, fits, offRoom, onRoom}
 use Rattle.model.specs.Rust as rust
-use Rattle.model.specs.Port.{Result, takes, refuses, Recorded, recordStages, refuseRecord, roomRecord, judgeRecord, hasPlace, placeRecord, madeRecord, recordStep}
+use Rattle.model.specs.Port.{takes, refuses, Recorded, recordStages, roomRecord, judgeRecord, hasPlace, placeRecord, madeRecord, recordStep}
 use Rattle.agreement.proofs.Rejections.{Leaves, ownRecord, record-outcome}
 use Rattle.kept.proofs.Table.{on-at-address, on-at-index, off-at-address}
 use Rattle.calls.proofs.Room.{fits-put-on, fits-put-off}

@@ -23,7 +23,7 @@ use Rattle.calls.specs.Answers.{noView}
 use Rattle.model.specs.Port.{Result, takes, refuses, Recorded, Played, ahead, play, recordStep}
 use Rattle.model.specs.Wellformed.{wellFormed}
 use Rattle.kept.proofs.Record.{At, recorded}
-use Rattle.kept.proofs.Table.{well-facts, well-test}
+use Rattle.model.proofs.Wellformed.{well-facts, well-test}
 use Rattle.table.specs.declared.Keys.{Keys}
 use Rattle.table.specs.declared.Table.{Table}
 use Rattle.table.specs.Keys.{keysOf}
@@ -34,9 +34,10 @@ use Rattle.calls.specs.declared.Batch.{Batch}
 use Rattle.calls.specs.declared.Delivered.{Delivered}
 use Rattle.calls.specs.Calls.{recordsOf}
 use Rattle.delivery.specs.declared.Beside.{Beside}
-use Rattle.delivery.specs.declared.Start.{Start}
-use Rattle.delivery.specs.declared.Tally.{Tally}
-use Rattle.delivery.specs.Delivery.{noTally, next, after, changed, answered}
+use Rattle.tally.specs.declared.Start.{Start}
+use Rattle.tally.specs.declared.Tally.{Tally}
+use Rattle.delivery.specs.Delivery.{changed}
+use Rattle.tally.specs.Tally.{noTally, next, after, answered}
 use Rattle.receive.specs.Receive.{delivery, Begins, deliveredFrom}
 use Rattle.receive.proofs.Answer.{answer-is}
 

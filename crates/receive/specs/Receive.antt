@@ -10,8 +10,9 @@ use Rattle.calls.specs.declared.Batch.{Batch}
 use Rattle.calls.specs.declared.Delivered.{Delivered}
 use Rattle.calls.specs.Calls.{recordsOf, tableReply, deliveredOf}
 use Rattle.delivery.specs.declared.Beside.{Beside}
-use Rattle.delivery.specs.declared.Start.{Start}
-use Rattle.delivery.specs.Delivery.{besideOf, answered}
+use Rattle.tally.specs.declared.Start.{Start}
+use Rattle.delivery.specs.Delivery.{besideOf}
+use Rattle.tally.specs.Tally.{answered}
 
 -- the records on a table that has the delivery's time
 unfoldable pub delivery : Table → ℕ → Batch → Delivered

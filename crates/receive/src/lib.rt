@@ -2,55 +2,55 @@
 use calls::Batch;
 use calls::Delivered;
 use delivery::Beside;
-use delivery::Start;
-use packet::View;
 use table::Table;
+use tally::Start;
+use turn::Course;
 ghost use mathlib.Core.Path.{_≡_};
 ghost use Rattle.calls.specs.Calls.{accepted};
 ghost use Rattle.receive.specs.Receive as Spec;
 
 // The first n records, on the table with that latest time; a refused delivery has none, and leaves by the same exit. The record's number
-// comes before its channel: at 10 and 11 no channel is made. "From refusal 4 on, what a refusal leaves is said of its own record; what
-// earlier records did stays."
+// comes before its channel: at 10 and 11 no channel is made. A plain record is stored by itself, so that only the lists that it changes
+// are moved. "From refusal 4 on, what a refusal leaves is said of its own record; what earlier records did stays."
 fn deliver(t: Table, start: Start, first: Beside, address: u32, b: Batch) -> Delivered
     requires { ⌜ Spec.Begins start first t b ⌝ }
     ensures { λ d. ⌜ d ≡ Spec.deliveredFrom start t address b ⌝ }
 {
     let mut offs = t.offs;
     let mut ons = t.ons;
-    let mut beside = first;
-    let mut done = start.done;
+    let mut course = Course::of(start.done, first);
     for i in 0..start.n {
         let r = b.records[i];
-        let mut aim = delivery::aimed(beside, address, r);
-        let at = aim.at;
+        let mut aim = delivery::aimed(course.beside, address, r);
+        let k = aim.at;
         if aim.code == 0 {
             if r.on == 1 {
-                let c = delivery::opened_on(ons[at], aim.new, address, r);
-                aim.code = records::on_code(c, r, start.latest);
-                if !delivery::drops(aim.code) {
-                    let d = records::on_taken(c, r, start.latest, t.forwarding);
-                    done = done.then(aim.code, channel::on_view(d));
-                    ons[at] = d;
-                    beside = beside.with_on(at, d.address, d.index, aim.new, r.prefix);
+                aim.code = records::on_code(ons[k], r, start.latest);
+                if !tally::drops(aim.code) {
+                    if plain::is_plain_on(ons[k], aim.new, r) {
+                        ons[k] = plain::plain_on(ons[k], r, aim.code, t.forwarding);
+                    } else {
+                        ons[k] = turn::on_step(ons[k], aim, address, r, start.latest, t.forwarding);
+                    }
+                    course = course.with_on(aim, channel::on_view(ons[k]), r.prefix);
                     continue;
                 }
             } else {
-                let c = delivery::opened_off(offs[at], aim.new, address);
-                aim.code = off_records::off_code(c, r, start.latest);
-                if !delivery::drops(aim.code) {
-                    let d = off_records::off_taken(c, r, start.latest);
-                    done = done.then(aim.code, channel::off_view(d));
-                    offs[at] = d;
-                    beside = beside.with_off(at, d.address, aim.new, r.prefix);
+                aim.code = off_records::off_code(offs[k], r, start.latest);
+                if !tally::drops(aim.code) {
+                    if plain::is_plain_off(aim.new, r) {
+                        offs[k] = plain::plain_off(offs[k], r, aim.code);
+                    } else {
+                        offs[k] = turn::off_step(offs[k], aim, address, r, start.latest);
+                    }
+                    course = course.with_off(aim, channel::off_view(offs[k]), r.prefix);
                     continue;
                 }
             }
         }
-        done = done.then(aim.code, View::none());
+        course = course.past(aim.code);
     }
-    let u = delivery::changed(t, start.latest, beside, offs, ons);
-    delivery::answered(u, done)
+    course.ended(t, start.latest, offs, ons)
 }
 
 // "Earlier records' refusals are ignored; the answer is the last one's, with the count of records not refused (0 at 1 to 3)."
@@ -58,9 +58,9 @@ pub fn accept(t: Table, time: u64, address: u32, b: Batch) -> Delivered
     ensures { λ d. ⌜ d ≡ accepted t time address b ⌝ }
 {
     let beside = Beside::of(t);
-    let good = table::well_formed(t);
-    let made = delivery::batch_made(b);
-    let code = delivery::refusal(good, made, t.latest, time);
-    let start = delivery::begin(code, t.latest, time, b.count);
+    let good = table_test::well_formed(t);
+    let made = tally::batch_made(b);
+    let code = tally::refusal(good, made, t.latest, time);
+    let start = tally::begin(code, t.latest, time, b.count);
     deliver(t, start, beside, address, b)
 }

@@ -5,13 +5,15 @@ use mathlib.Core.List.{[], _∷_, _++_}
 use Prim.Native.Nat.{ℕ, _+_, _≤_, _<_}
 use native.Mathlib.Omega.{arith}
 use borrow.Author.Needs.{needs}
-use borrow.Author.Tests.{eq-eqb, ne-eqb, lt-ltb, le-ltb, ltb-true, ltb-false, not-true, not-false}
+use borrow.Author.Tests.{eq-eqb, ne-eqb, eqb-true, lt-ltb, le-ltb, ltb-true, ltb-false, not-true, not-false}
 use lib.Dec.{ltb, eqb}
 use lib.ListN.{length, length-append}
+use Rattle.lists.proofs.Pad.{never}
+use Rattle.lists.proofs.Tests.{and-4}
 use Rattle.seq.specs.Num.{sub}
 use Rattle.packet.specs.declared.Packet.{Packet}
 use Rattle.packet.specs.declared.Record.{Record}
-use Rattle.packet.specs.Data.{isSet, packet, versionOf}
+use Rattle.packet.specs.Data.{isSet, packetOf, rangeIf, packet, versionOf}
 use Rattle.model.specs.State as model
 use Rattle.model.specs.Reorder.{Reliable, reorder, arrive}
 use Rattle.model.specs.Refusals.{lastNotExpected}
@@ -25,13 +27,15 @@ use Rattle.ack_queue.specs.declared.AckQueue.{AckQueue}
 use Rattle.ack_queue.specs.Queue as Acks
 use Rattle.ack_queue.proofs.Form as Queues
 use Rattle.bundles.specs.Bundles as Made
-use Rattle.fragments.specs.declared.Added.{Added}
-use Rattle.fragments.specs.Groups.{dataOf, fitsLists, answer, added}
+use Rattle.group_rule.specs.declared.Added.{Added}
+use Rattle.group_rule.specs.Rule as Rule
+use Rattle.group_rule.specs.Rule.{dataOf, fitsLists, answer, added}
 use Rattle.fragments.specs.Groups as Frags
 use Rattle.fragments.proofs.Many as Many
 use Rattle.waiting.proofs.Form as Waits
 use Rattle.reorder.specs.declared.Reordered.{Reordered}
-use Rattle.reorder.specs.Reorder.{within, stateOf, changed, unchanged, received}
+use Rattle.reorder.specs.Reorder.{within, stateOf, changed, unchanged, received, Alone}
+use Rattle.reorder.proofs.Steps.{alone-room}
 use Rattle.channel.specs.declared.OnChannel.{OnChannel}
 use Rattle.channel.specs.declared.OnStep.{OnStep}
 use Rattle.channel.specs.Channel.{absOn, reprOn, WfOn, roomOn, stepOn}
@@ -39,8 +43,8 @@ use Rattle.channel.proofs.Laws.{form-on}
 use Rattle.rules.specs.Rules.{acked}
 use Rattle.rules.proofs.Room.{acked-le, reliable-room, no-room-on, loose-room-on}
 use Rattle.rules.proofs.Frame.{beside, added-beside, zero-fits, packet-zero}
-use Rattle.records.specs.Records.{takenIn, onAcked, onCode, drops}
-use Rattle.records.proofs.Drops.{never, added-zero}
+use Rattle.records.specs.Records.{takenIn, onAcked, alone, onCode, drops}
+use Rattle.records.proofs.Drops.{added-zero}
 
 -- ---- taken_in
 
@@ -104,6 +108,26 @@ module _ (c : OnChannel) (r : Record) (w : WfOn c) where
       at : (t : Bool) → roomOn t (after c r 0 w) c .code ≡ cond t 0 11
       at true = refl
       at false = refl
+
+  -- a packet that goes alone needs room for one bundle
+  pub alone-is : alone r c ≡ true → Alone (c .expected) (c .buffer) (c .queue) (packet r)
+  alone-is q =
+      let l = and-4 (eqb (c .buffer .len) 0) (eqb (c .queue .len) 0) (not (isSet (r .ranged))) (eqb (r .number) (c .expected)) q in
+      let s : isSet (r .ranged) ≡ false = not-true (isSet (r .ranged)) (l .2) in
+      record {
+        buffer = w .buffer;
+        queue = w .queue;
+        none = eqb-true (c .buffer .len) 0 (l .0);
+        empty = eqb-true (c .queue .len) 0 (l .1);
+        single = λ h. let z : _≡_ {A = ℕ} 0 1 = sym (ap (λ (b : Bool). packetOf (r .number) (r .handle) (rangeIf b (r .first) (r .last)) .ranged) s) ∙ h in absurd (omega arith);
+        next = ap (λ (b : Bool). packetOf (r .number) (r .handle) (rangeIf b (r .first) (r .last)) .number) s ∙ eqb-true (r .number) (c .expected) (l .3);
+      }
+
+  pub alone-zero : (b x : Bool) → c .acks .len < 64 → b ≡ alone r c → b ≡ true → x ≡ Made.room (Made.abs (c .bundles)) 1 → x ≡ true → 0 ≡ stepOn (reliableIn false r (onAcked r (absOn c))) c .code
+  alone-zero b x h q y e z = sym (code-is h true (alone-room (c .expected) (c .buffer) (c .queue) (c .bundles) (packet r) (alone-is (sym q ∙ y)) true (sym z ∙ e)))
+
+  pub alone-over : (b x : Bool) → c .acks .len < 64 → b ≡ alone r c → b ≡ true → x ≡ Made.room (Made.abs (c .bundles)) 1 → x ≡ false → 11 ≡ stepOn (reliableIn false r (onAcked r (absOn c))) c .code
+  alone-over b x h q y e z = sym (code-is h false (alone-room (c .expected) (c .buffer) (c .queue) (c .bundles) (packet r) (alone-is (sym q ∙ y)) false (sym z ∙ e)))
 
   -- where the number is 0 the ack queue has room, and so have the reorder rule and the grouping
   pub acks-room : stepOn (reliableIn false r (onAcked r (absOn c))) c .code ≡ 0 → c .acks .len < 64
@@ -192,7 +216,7 @@ module _ (c : OnChannel) (r : Record) (t : ℕ) (w : WfOn c) where
   said-code beyond = refl
   said-code (done d) = at (fitsLists d) ∙ sym (ap (λ (z : Bool). roomOn z (withOn d) c .code) (room-on d))
     where
-      at : (b : Bool) → Frags.within b d (c .groups) (c .bundles) .code ≡ roomOn b (withOn d) c .code
+      at : (b : Bool) → Rule.within b d (c .groups) (c .bundles) .code ≡ roomOn b (withOn d) c .code
       at true = refl
       at false = refl
 
@@ -209,7 +233,7 @@ module _ (c : OnChannel) (r : Record) (t : ℕ) (w : WfOn c) where
     taken-on beyond x h = absurd (omega (arith, h))
     taken-on (done d) x h =
         let b : fitsLists d ≡ true = zero-fits (fitsLists d) d (c .groups) (c .bundles) h in
-        let y : a ≡ Frags.within true d (c .groups) (c .bundles) = x ∙ ap (λ (z : Bool). Frags.within z d (c .groups) (c .bundles)) b in
+        let y : a ≡ Rule.within true d (c .groups) (c .bundles) = x ∙ ap (λ (z : Bool). Rule.within z d (c .groups) (c .bundles)) b in
         (λ k. record {
           address = c .address;
           index = c .index;
@@ -312,7 +336,7 @@ module _ (c : OnChannel) (r : Record) (t v : ℕ) (e : v ≡ versionOf r) where
       where
         at : (b : Bool) → drops (roomOn b (after c r 0 w) c .code) ≡ false → roomOn b (after c r 0 w) c .code ≡ 0
         at true x = refl
-        at false x = never x
+        at false x = never (sym x)
 
     pub left-reliable : (f : ℕ) (d : OnChannel) → r .reliable ≡ 1 → (r .haslast ≡ 1 → ⊥) → d ≡ stepOn (reliableIn (isSet f) r (onAcked r (absOn c))) c .channel → d ≡ stepOn (onRecord (isSet f) t r (absOn c)) c .channel
     left-reliable f d y z q = q ∙ ap (λ (s : OnStep). s .channel) (on-reliable c r t f v e h y z)
@@ -364,4 +388,4 @@ module _ (c : OnChannel) (r : Record) (t : ℕ) (f : Bool) where
       at true = refl
       at false = rules-same (isSet (r .reliable)) (isSet (r .haslast)) (onAcked r (absOn c))
 
-pub ruleset onward = (taken-in-done, reliable-full, reliable-over, reliable-zero, acks-room, reliable-taken, packet-zero, loose-on-taken, last-none, last-given, code-five, code-seven, code-reliable, code-eight, code-loose, reliable-granted, loose-granted, left-five, left-seven, left-reliable, left-eight, left-loose, needs)
+pub ruleset onward = (taken-in-done, reliable-full, reliable-over, reliable-zero, alone-zero, alone-over, acks-room, reliable-taken, packet-zero, loose-on-taken, last-none, last-given, code-five, code-seven, code-reliable, code-eight, code-loose, reliable-granted, loose-granted, left-five, left-seven, left-reliable, left-eight, left-loose, needs)

@@ -1,9 +1,10 @@
 -- A record on its on-channel, in the parts that its rules change.
-use mathlib.Core.Bool.{Bool, false, _||_}
+use mathlib.Core.Bool.{Bool, false, not, _&&_, _||_}
 use mathlib.Core.List.{[], _∷_, _++_}
 use Prim.Native.Nat.{ℕ}
 use lib.Dec.{eqb}
 use Rattle.packet.specs.declared.Record.{Record}
+use Rattle.packet.specs.Data.{isSet}
 use Rattle.model.specs.State as model
 use Rattle.model.specs.Refusals.{number, beyondGroup, overLimit}
 use Rattle.model.specs.Record.{ackedOn, observedIf, onRecord}
@@ -35,6 +36,10 @@ takenIn forwarding r m c =
       buffer = m .buffer;
       queue = m .queue;
     }
+
+-- the packet that the reorder rule sends on by no queue: in order, without a range, and nothing waits
+abbrev pub alone : Record → OnChannel → Bool
+alone r c = eqb (c .buffer .len) 0 && eqb (c .queue .len) 0 && not (isSet (r .ranged)) && eqb (r .number) (c .expected)
 
 -- the number of a record's refusal on its channel, or 0; whether the table forwards plays no part in it
 abbrev pub onCode : ℕ → Record → OnChannel → ℕ

@@ -1,6 +1,5 @@
 // One record on its on-channel (Rust: accept_inner), by value: the refusal's number or 0, and the channel after it.
 use channel::OnChannel;
-use channel::OnStep;
 use packet::Record;
 use reorder::Reordered;
 use seq::Seq;
@@ -12,7 +11,7 @@ ghost use lib.Dec.{eqb};
 ghost use Rattle.seq.specs.Num as Num;
 ghost use Rattle.packet.specs.Data.{isSet, wellMade, packet};
 ghost use Rattle.model.specs.Record.{observedIf, onRecord, reliableIn, looseOn};
-ghost use Rattle.fragments.specs.Groups as Frags;
+ghost use Rattle.group_rule.specs.Rule.{added};
 ghost use Rattle.channel.specs.Channel.{absOn, reprOn, WfOn, stepOn};
 ghost use Rattle.records.specs.Records as Spec;
 
@@ -29,7 +28,7 @@ fn acked_on(c: OnChannel, r: Record) -> OnChannel
 }
 
 // "if forwarding, `observe`"
-fn observed(forwarding: u32, next: u32, number: u32) -> u32
+pub fn observed(forwarding: u32, next: u32, number: u32) -> u32
     ensures { λ n. ⌜ n ≡ observedIf (isSet forwarding) next number ⌝ }
 {
     if forwarding == 1 {
@@ -66,7 +65,15 @@ fn taken_in(c: OnChannel, r: Record, forwarding: u32, m: Reordered) -> OnChannel
     d
 }
 
-// The number of a reliable record: 0, or 11 where the ack queue, the reorder rule or the grouping finds no room.
+// In order, without a range, and nothing waits: such a packet goes by no queue.
+pub fn alone(c: OnChannel, r: Record) -> bool
+    ensures { λ b. ⌜ b ≡ Spec.alone r c ⌝ }
+{
+    (c.buffer.len == 0) & (c.queue.len == 0) & (r.ranged != 1) & (r.number == c.expected)
+}
+
+// The number of a reliable record: 0, or 11 where the ack queue, the reorder rule or the grouping finds no room. No list is moved for a
+// packet that goes alone.
 fn reliable_code(c: OnChannel, r: Record) -> u32
     requires { ⌜ WfOn c ⌝ }
     ensures { λ k. ⌜ k ≡ stepOn (reliableIn false r (Spec.onAcked r (absOn c))) c .code ⌝ }
@@ -74,9 +81,15 @@ fn reliable_code(c: OnChannel, r: Record) -> u32
     if 64 <= c.acks.len {
         return 11;
     }
+    let made = c.bundles;
+    if alone(c, r) {
+        if bundles::room_for(made, 1) {
+            return 0;
+        }
+        return 11;
+    }
     let buffer = c.buffer;
     let queue = c.queue;
-    let made = c.bundles;
     let p = r.packet();
     let m = reorder::add_in_reliable_packet(c.expected, buffer, queue, made, p);
     if m.fits != 1 {
@@ -104,13 +117,13 @@ fn reliable_in(c: OnChannel, r: Record, forwarding: u32) -> OnChannel
 fn loose_on(c: OnChannel, r: Record, time: u64) -> OnChannel
     requires { ⌜ WfOn c ⌝ }
     requires { ⌜ wellMade r ≡ true ⌝ }
-    requires { ⌜ Frags.added time (packet r) (c .groups) (c .bundles) .code ≡ 0 ⌝ }
+    requires { ⌜ added time (packet r) (c .groups) (c .bundles) .code ≡ 0 ⌝ }
     ensures { λ d. ⌜ d ≡ stepOn (looseOn time r (Spec.onAcked r (absOn c))) c .channel ⌝ }
 {
     let groups = c.groups;
     let made = c.bundles;
     let p = r.packet();
-    let a = fragments::add_granted(groups, made, p, time);
+    let a = group_rule::add_granted(groups, made, p, time);
     let o = c.out;
     let out = rules::acked(o, r);
     let mut d = c;

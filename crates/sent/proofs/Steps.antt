@@ -1,6 +1,6 @@
 -- A send on its channel, a return at a time. Assumes nothing.
 use mathlib.Core.Path.{_≡_, ap, sym, _∙_}
-use mathlib.Core.Bool.{Bool, true, not}
+use mathlib.Core.Bool.{Bool, true}
 use mathlib.Core.List.{_++_}
 use Prim.Native.Nat.{ℕ, _+_, _≤_, _<_}
 use native.Mathlib.Omega.{arith}
@@ -13,7 +13,7 @@ use Rattle.seq.specs.Num.{add}
 use Rattle.packet.specs.declared.Prepared.{Prepared}
 use Rattle.packet.specs.declared.View.{View}
 use Rattle.model.specs.State as model
-use Rattle.model.specs.Rust.{sentEntries}
+use Rattle.model.specs.Rust.{sentEntries, answerOf}
 use Rattle.out_list.specs.declared.OutList.{OutList}
 use Rattle.out_list.specs.Out as out
 use Rattle.out_list.proofs.Form.{wf-len-le}
@@ -25,7 +25,7 @@ use Rattle.calls.specs.Calls.{handlesOf}
 use Rattle.sent.specs.declared.Left.{Left}
 use Rattle.sent.specs.declared.OffSent.{OffSent}
 use Rattle.sent.specs.declared.OnSent.{OnSent}
-use Rattle.sent.specs.Sent.{answerOf, stoppedLeft, looseIf, looseLeft, onNew, offNew, onSends, offSends, onSentOf, offSentOf}
+use Rattle.sent.specs.Sent.{stoppedLeft, looseIf, looseLeft, onNew, offNew, onSends, offSends, onSentOf, offSentOf}
 
 -- ---- not reliable
 

@@ -1,13 +1,12 @@
 -- A send on its channel: what is answered, and what is left of the channel, the table's time and the shared source.
-use mathlib.Core.Bool.{Bool, true, false, cond}
+use mathlib.Core.Bool.{Bool, true, false}
 use mathlib.Core.List.{_++_}
 use Prim.Native.Nat.{ℕ, _+_}
 use lib.Dec.{leb, ltb, eqb}
 use Rattle.seq.specs.Num.{add}
-use Rattle.packet.specs.declared.Prepared.{Prepared}
 use Rattle.packet.specs.declared.View.{View}
 use Rattle.model.specs.State as model
-use Rattle.model.specs.Rust.{sentEntries}
+use Rattle.model.specs.Rust.{sentEntries, answerOf}
 use Rattle.out_list.specs.declared.OutList.{OutList}
 use Rattle.out_list.specs.Out as out
 use Rattle.channel.specs.declared.OffChannel.{OffChannel}
@@ -18,19 +17,6 @@ use Rattle.calls.specs.Calls.{handlesOf}
 use Rattle.sent.specs.declared.Left.{Left}
 use Rattle.sent.specs.declared.OffSent.{OffSent}
 use Rattle.sent.specs.declared.OnSent.{OnSent}
-
--- what is answered, from the channel's view
-abbrev pub answerOf : View → ℕ → Bool → ℕ → Prepared
-answerOf v offset allocated n =
-    record {
-      allocated = cond allocated 1 0;
-      first = cond allocated n 0;
-      on = v .on;
-      expected = v .expected;
-      index = v .index;
-      version = v .version;
-      offset = offset;
-    }
 
 -- 13 and 11 leave the time set
 abbrev pub stoppedLeft : Left → ℕ → ℕ → Left

@@ -13,10 +13,10 @@ ghost use mathlib.Core.Bool.{true};
 ghost use mathlib.Core.List.{_++_};
 ghost use Prim.Native.Nat.{_+_, _≤_};
 ghost use Rattle.seq.specs.Num as Num;
-ghost use Rattle.model.specs.Rust.{sentEntries};
+ghost use Rattle.model.specs.Rust.{sentEntries, answerOf};
 ghost use Rattle.out_list.specs.Out as out;
 ghost use Rattle.calls.specs.Calls.{handlesOf};
-ghost use Rattle.sent.specs.Sent.{answerOf, stoppedLeft, looseLeft, onSentOf, offSentOf};
+ghost use Rattle.sent.specs.Sent.{stoppedLeft, looseLeft, onSentOf, offSentOf};
 
 // "`alloc` answers the next number and moves on by the count": where it moves to.
 fn moved_on(next: u32, count: u32) -> u32
@@ -195,12 +195,9 @@ pub fn send_off(
     let p = answer(v, offset, a.source);
     let mut d = c;
     d.out = all;
-    let mut b = a;
-    b.latest = time;
-    b.source = next;
-    b.prepared = p;
-    OffSent {
-        channel: d,
-        left: b,
-    }
+    let mut left = a;
+    left.latest = time;
+    left.source = next;
+    left.prepared = p;
+    OffSent { channel: d, left }
 }

@@ -1,15 +1,15 @@
 use Prim.Native.Nat.{ℕ, _-_, _≤_}
-use mathlib.Core.Path.{_≡_, sym, ap, _∙_}
+use mathlib.Core.Path.{_≡_, sym, subst, ap, _∙_}
 use mathlib.Core.Logic.{⊎-elim}
 use native.Mathlib.Omega.{arith}
 use lib.ListN.{length}
 use Rattle.lists.proofs.Pad.{length-of-map}
-use Rattle.records.specs.Records.{drops}
 use Rattle.delivery.specs.declared.Aim.{Aim}
-use Rattle.delivery.specs.Delivery.{changed, answered}
+use Rattle.delivery.specs.Delivery.{changed}
 use Rattle.table.specs.Table.{timeSet}
+use Rattle.turn.specs.declared.Course.{Course}
 use Rattle.receive.proofs.Turn.{Running, running-start, running-end, turning-of, below-of, running-again, turn-index, turn-counted, less-left, next-fits, record-fits, on-fits, off-fits}
-use Rattle.receive.proofs.Arms.{not-dropped, turn-missed, on-index, on-form, on-made, turn-on-dropped, turn-on-kept, off-index, off-form, off-made, turn-off-dropped, turn-off-kept}
+use Rattle.receive.proofs.Arms.{turn-missed-past, on-index, on-made, on-read, on-granted, on-plain-needs, on-plain-left, turn-on-joined, turn-on-past, off-index, off-made, off-read, off-granted, off-plain-needs, off-plain-left, turn-off-joined, turn-off-past}
 use Rattle.receive.proofs.deliver.Statement.{statement}
 use Rattle.receive.proofs.deliver.Tie as tie
 
@@ -17,18 +17,22 @@ up-to-eight : (n : ℕ) → n ≤ 4 → n ≤ 8
 up-to-eight n h = omega (arith, h)
 
 abbrev Inv-loop : tie.InvT-loop
-Inv-loop t start address b offs₀ ons₀ beside₀ done₀ i₀ i-end offs ons beside done i =
-    Running (timeSet (start .latest) t) address b (start .n) (start .done) (changed t (start .latest) beside offs ons) (beside .keys) done i
+Inv-loop t start address b offs₀ ons₀ course₀ i₀ i-end offs ons course i =
+    Running (timeSet (start .latest) t) address b (start .n) (start .done) (changed t (start .latest) (course .beside) offs ons) (course .beside .keys) (course .done) i
 
 abbrev μ-loop : tie.MeasureT-loop
-μ-loop t start address b offs₀ ons₀ beside₀ done₀ i₀ i-end offs ons beside done i = i-end - i
+μ-loop t start address b offs₀ ons₀ course₀ i₀ i-end offs ons course i = i-end - i
+
+of-requires : tie.Need-of-requires Inv-loop μ-loop
+of-requires c κs = tt
 
 loop-holds : tie.Need-loop-holds Inv-loop μ-loop
 loop-holds c =
     let s = c .before .before .before in
     let good = s .good .1 .1 .1 .1 in
     let p : length (s .args .t5 .records) ≡ 8 = search (length-of-map, good) in
-    running-start (s .args .start) (s .args .first) (s .args .t) (s .args .address) (s .args .t5) (s .pre) p
+    subst (λ (x : Course). Running (timeSet (s .args .start .latest) (s .args .t)) (s .args .address) (s .args .t5) (s .args .start .n) (s .args .start .done) (changed (s .args .t) (s .args .start .latest) (x .beside) (s .args .t .offs) (s .args .t .ons)) (x .beside .keys) (x .done) 0) (sym (c .of .ensures))
+    (running-start (s .args .start) (s .args .first) (s .args .t) (s .args .address) (s .args .t5) (s .pre) p)
 
 mul-r : tie.Need-mul-r Inv-loop μ-loop
 mul-r c =
@@ -51,134 +55,209 @@ aimed-requires c κs =
     let h = below-of _ _ _ _ _ _ _ _ _ (x .before .loop .inv) (x .loop-test .taken) in
     (w .offs, w .ons)
 
-mul-opened-on : tie.Need-mul-opened-on Inv-loop μ-loop
-mul-opened-on c =
+mul-on-code : tie.Need-mul-on-code Inv-loop μ-loop
+mul-on-code c =
     let x = c .before .before .before .before .before .before in
     let w = turning-of _ _ _ _ _ _ _ _ _ (x .before .loop .inv) (x .loop-test .taken) in
     let h = below-of _ _ _ _ _ _ _ _ _ (x .before .loop .inv) (x .loop-test .taken) in
     on-fits _ (on-index _ _ _ _ _ _ _ _ w h _ (c .before .before .before .before .aimed .ensures) (c .before .before .if1 .taken) (c .if2 .taken))
 
-array-copy-out-opened-on : tie.Need-array-copy-out-opened-on Inv-loop μ-loop
-array-copy-out-opened-on c =
+array-copy-out-on-code : tie.Need-array-copy-out-on-code Inv-loop μ-loop
+array-copy-out-on-code c =
     let x = c .before .before .before .before .before .before in
     let w = turning-of _ _ _ _ _ _ _ _ _ (x .before .loop .inv) (x .loop-test .taken) in
     let h = below-of _ _ _ _ _ _ _ _ _ (x .before .loop .inv) (x .loop-test .taken) in
     on-index _ _ _ _ _ _ _ _ w h _ (c .before .before .before .before .aimed .ensures) (c .before .before .if1 .taken) (c .if2 .taken)
 
-opened-on-requires : tie.Need-opened-on-requires Inv-loop μ-loop
-opened-on-requires c κs = tt
-
 on-code-requires : tie.Need-on-code-requires Inv-loop μ-loop
 on-code-requires c κs =
-    let x = c .before .before .before .before .before .before .before .before in
+    let x = c .before .before .before .before .before .before .before in
     let w = turning-of _ _ _ _ _ _ _ _ _ (x .before .loop .inv) (x .loop-test .taken) in
     let h = below-of _ _ _ _ _ _ _ _ _ (x .before .loop .inv) (x .loop-test .taken) in
-    on-form _ _ _ _ _ _ _ _ w h _ (c .before .before .before .before .before .before .aimed .ensures) (c .before .before .before .before .if1 .taken) (c .before .before .if2 .taken) _ _ (c .opened-on .ensures)
+    on-read _ _ _ _ _ _ _ _ w h _ (c .before .before .before .before .before .aimed .ensures) (c .before .before .before .if1 .taken) (c .before .if2 .taken) _
 
 drops-requires : tie.Need-drops-requires Inv-loop μ-loop
 drops-requires c κs = tt
 
-on-taken-requires : tie.Need-on-taken-requires Inv-loop μ-loop
-on-taken-requires c κs =
-    let x = c .before .before .before .before .before .before .before .before .before .before .before in
+mul-is-plain-on : tie.Need-mul-is-plain-on Inv-loop μ-loop
+mul-is-plain-on c =
+    let x = c .before .before .before .before .before .before .before .before .before .before in
     let w = turning-of _ _ _ _ _ _ _ _ _ (x .before .loop .inv) (x .loop-test .taken) in
     let h = below-of _ _ _ _ _ _ _ _ _ (x .before .loop .inv) (x .loop-test .taken) in
-    (on-form _ _ _ _ _ _ _ _ w h _ (c .before .before .before .before .before .before .before .before .before .aimed .ensures) (c .before .before .before .before .before .before .before .if1 .taken) (c .before .before .before .before .before .if2 .taken) _ _ (c .before .before .before .opened-on .ensures), (on-made _ _ _ _ _ _ _ _ w h _ (c .before .before .before .before .before .before .before .before .before .aimed .ensures) (c .before .before .before .before .before .before .before .if1 .taken) (c .before .before .before .before .before .if2 .taken), not-dropped _ _ _ (c .before .before .on-code .ensures) (c .before .drops .ensures) (c .if3 .taken)))
+    on-fits _ (on-index _ _ _ _ _ _ _ _ w h _ (c .before .before .before .before .before .before .before .before .aimed .ensures) (c .before .before .before .before .before .before .if1 .taken) (c .before .before .before .before .if2 .taken))
+
+array-copy-out-is-plain-on : tie.Need-array-copy-out-is-plain-on Inv-loop μ-loop
+array-copy-out-is-plain-on c =
+    let x = c .before .before .before .before .before .before .before .before .before .before in
+    let w = turning-of _ _ _ _ _ _ _ _ _ (x .before .loop .inv) (x .loop-test .taken) in
+    let h = below-of _ _ _ _ _ _ _ _ _ (x .before .loop .inv) (x .loop-test .taken) in
+    on-index _ _ _ _ _ _ _ _ w h _ (c .before .before .before .before .before .before .before .before .aimed .ensures) (c .before .before .before .before .before .before .if1 .taken) (c .before .before .before .before .if2 .taken)
+
+is-plain-on-requires : tie.Need-is-plain-on-requires Inv-loop μ-loop
+is-plain-on-requires c κs = tt
+
+mul-plain-on : tie.Need-mul-plain-on Inv-loop μ-loop
+mul-plain-on c =
+    let x = c .before .before .before .before .before .before .before .before .before .before .before .before .before in
+    let w = turning-of _ _ _ _ _ _ _ _ _ (x .before .loop .inv) (x .loop-test .taken) in
+    let h = below-of _ _ _ _ _ _ _ _ _ (x .before .loop .inv) (x .loop-test .taken) in
+    on-fits _ (on-index _ _ _ _ _ _ _ _ w h _ (c .before .before .before .before .before .before .before .before .before .before .before .aimed .ensures) (c .before .before .before .before .before .before .before .before .before .if1 .taken) (c .before .before .before .before .before .before .before .if2 .taken))
+
+array-copy-out-plain-on : tie.Need-array-copy-out-plain-on Inv-loop μ-loop
+array-copy-out-plain-on c =
+    let x = c .before .before .before .before .before .before .before .before .before .before .before .before .before in
+    let w = turning-of _ _ _ _ _ _ _ _ _ (x .before .loop .inv) (x .loop-test .taken) in
+    let h = below-of _ _ _ _ _ _ _ _ _ (x .before .loop .inv) (x .loop-test .taken) in
+    on-index _ _ _ _ _ _ _ _ w h _ (c .before .before .before .before .before .before .before .before .before .before .before .aimed .ensures) (c .before .before .before .before .before .before .before .before .before .if1 .taken) (c .before .before .before .before .before .before .before .if2 .taken)
+
+plain-on-requires : tie.Need-plain-on-requires Inv-loop μ-loop
+plain-on-requires c κs =
+    let x = c .before .before .before .before .before .before .before .before .before .before .before .before .before .before in
+    let w = turning-of _ _ _ _ _ _ _ _ _ (x .before .loop .inv) (x .loop-test .taken) in
+    let h = below-of _ _ _ _ _ _ _ _ _ (x .before .loop .inv) (x .loop-test .taken) in
+    on-plain-needs _ _ _ _ _ _ _ _ w h _ (c .before .before .before .before .before .before .before .before .before .before .before .before .aimed .ensures) (c .before .before .before .before .before .before .before .before .before .before .if1 .taken) (c .before .before .before .before .before .before .before .before .if2 .taken) _ _ (c .before .before .before .before .before .before .on-code .ensures) _ (c .before .before .before .before .before .drops .ensures) (c .before .before .before .before .if3 .taken) _ (c .before .before .is-plain-on .ensures) (c .before .if4 .taken)
+
+mul-ons : tie.Need-mul-ons Inv-loop μ-loop
+mul-ons c =
+    let x = c .before .before .before .before .before .before .before .before .before .before .before .before .before .before .before in
+    let w = turning-of _ _ _ _ _ _ _ _ _ (x .before .loop .inv) (x .loop-test .taken) in
+    let h = below-of _ _ _ _ _ _ _ _ _ (x .before .loop .inv) (x .loop-test .taken) in
+    on-fits _ (on-index _ _ _ _ _ _ _ _ w h _ (c .before .before .before .before .before .before .before .before .before .before .before .before .before .aimed .ensures) (c .before .before .before .before .before .before .before .before .before .before .before .if1 .taken) (c .before .before .before .before .before .before .before .before .before .if2 .taken))
+
+array-set-from-ons : tie.Need-array-set-from-ons Inv-loop μ-loop
+array-set-from-ons c =
+    let x = c .before .before .before .before .before .before .before .before .before .before .before .before .before .before .before in
+    let w = turning-of _ _ _ _ _ _ _ _ _ (x .before .loop .inv) (x .loop-test .taken) in
+    let h = below-of _ _ _ _ _ _ _ _ _ (x .before .loop .inv) (x .loop-test .taken) in
+    on-index _ _ _ _ _ _ _ _ w h _ (c .before .before .before .before .before .before .before .before .before .before .before .before .before .aimed .ensures) (c .before .before .before .before .before .before .before .before .before .before .before .if1 .taken) (c .before .before .before .before .before .before .before .before .before .if2 .taken)
+
+mul-on-step : tie.Need-mul-on-step Inv-loop μ-loop
+mul-on-step c =
+    let x = c .before .before .before .before .before .before .before .before .before .before .before .before .before in
+    let w = turning-of _ _ _ _ _ _ _ _ _ (x .before .loop .inv) (x .loop-test .taken) in
+    let h = below-of _ _ _ _ _ _ _ _ _ (x .before .loop .inv) (x .loop-test .taken) in
+    on-fits _ (on-index _ _ _ _ _ _ _ _ w h _ (c .before .before .before .before .before .before .before .before .before .before .before .aimed .ensures) (c .before .before .before .before .before .before .before .before .before .if1 .taken) (c .before .before .before .before .before .before .before .if2 .taken))
+
+array-copy-out-on-step : tie.Need-array-copy-out-on-step Inv-loop μ-loop
+array-copy-out-on-step c =
+    let x = c .before .before .before .before .before .before .before .before .before .before .before .before .before in
+    let w = turning-of _ _ _ _ _ _ _ _ _ (x .before .loop .inv) (x .loop-test .taken) in
+    let h = below-of _ _ _ _ _ _ _ _ _ (x .before .loop .inv) (x .loop-test .taken) in
+    on-index _ _ _ _ _ _ _ _ w h _ (c .before .before .before .before .before .before .before .before .before .before .before .aimed .ensures) (c .before .before .before .before .before .before .before .before .before .if1 .taken) (c .before .before .before .before .before .before .before .if2 .taken)
+
+on-step-requires : tie.Need-on-step-requires Inv-loop μ-loop
+on-step-requires c κs =
+    let x = c .before .before .before .before .before .before .before .before .before .before .before .before .before .before in
+    let w = turning-of _ _ _ _ _ _ _ _ _ (x .before .loop .inv) (x .loop-test .taken) in
+    let h = below-of _ _ _ _ _ _ _ _ _ (x .before .loop .inv) (x .loop-test .taken) in
+    (on-read _ _ _ _ _ _ _ _ w h _ (c .before .before .before .before .before .before .before .before .before .before .before .before .aimed .ensures) (c .before .before .before .before .before .before .before .before .before .before .if1 .taken) (c .before .before .before .before .before .before .before .before .if2 .taken) _, (on-made _ _ _ _ _ _ _ _ w h _ (c .before .before .before .before .before .before .before .before .before .before .before .before .aimed .ensures) (c .before .before .before .before .before .before .before .before .before .before .if1 .taken) (c .before .before .before .before .before .before .before .before .if2 .taken), on-granted _ _ _ _ _ _ _ _ w h _ (c .before .before .before .before .before .before .before .before .before .before .before .before .aimed .ensures) (c .before .before .before .before .before .before .before .before .before .before .if1 .taken) (c .before .before .before .before .before .before .before .before .if2 .taken) _ _ (c .before .before .before .before .before .before .on-code .ensures) _ (c .before .before .before .before .before .drops .ensures) (c .before .before .before .before .if3 .taken)))
+
+mul-ons-2 : tie.Need-mul-ons-2 Inv-loop μ-loop
+mul-ons-2 c =
+    let x = c .before .before .before .before .before .before .before .before .before .before .before .before .before .before .before in
+    let w = turning-of _ _ _ _ _ _ _ _ _ (x .before .loop .inv) (x .loop-test .taken) in
+    let h = below-of _ _ _ _ _ _ _ _ _ (x .before .loop .inv) (x .loop-test .taken) in
+    on-fits _ (on-index _ _ _ _ _ _ _ _ w h _ (c .before .before .before .before .before .before .before .before .before .before .before .before .before .aimed .ensures) (c .before .before .before .before .before .before .before .before .before .before .before .if1 .taken) (c .before .before .before .before .before .before .before .before .before .if2 .taken))
+
+array-set-from-ons-2 : tie.Need-array-set-from-ons-2 Inv-loop μ-loop
+array-set-from-ons-2 c =
+    let x = c .before .before .before .before .before .before .before .before .before .before .before .before .before .before .before in
+    let w = turning-of _ _ _ _ _ _ _ _ _ (x .before .loop .inv) (x .loop-test .taken) in
+    let h = below-of _ _ _ _ _ _ _ _ _ (x .before .loop .inv) (x .loop-test .taken) in
+    on-index _ _ _ _ _ _ _ _ w h _ (c .before .before .before .before .before .before .before .before .before .before .before .before .before .aimed .ensures) (c .before .before .before .before .before .before .before .before .before .before .before .if1 .taken) (c .before .before .before .before .before .before .before .before .before .if2 .taken)
+
+mul-on-view : tie.Need-mul-on-view Inv-loop μ-loop
+mul-on-view c =
+    let x = c .before .before .before .before .before .before .before .before .before .before .before .before .before in
+    let w = turning-of _ _ _ _ _ _ _ _ _ (x .before .loop .inv) (x .loop-test .taken) in
+    let h = below-of _ _ _ _ _ _ _ _ _ (x .before .loop .inv) (x .loop-test .taken) in
+    on-fits _ (on-index _ _ _ _ _ _ _ _ w h _ (c .before .before .before .before .before .before .before .before .before .before .before .aimed .ensures) (c .before .before .before .before .before .before .before .before .before .if1 .taken) (c .before .before .before .before .before .before .before .if2 .taken))
+
+array-copy-out-on-view : tie.Need-array-copy-out-on-view Inv-loop μ-loop
+array-copy-out-on-view c =
+    let x = c .before .before .before .before .before .before .before .before .before .before .before .before .before in
+    let w = turning-of _ _ _ _ _ _ _ _ _ (x .before .loop .inv) (x .loop-test .taken) in
+    let h = below-of _ _ _ _ _ _ _ _ _ (x .before .loop .inv) (x .loop-test .taken) in
+    on-index _ _ _ _ _ _ _ _ w h _ (c .before .before .before .before .before .before .before .before .before .before .before .aimed .ensures) (c .before .before .before .before .before .before .before .before .before .if1 .taken) (c .before .before .before .before .before .before .before .if2 .taken)
 
 on-view-requires : tie.Need-on-view-requires Inv-loop μ-loop
 on-view-requires c κs = tt
 
-then-requires : tie.Need-then-requires Inv-loop μ-loop
-then-requires c κs =
-    let x = c .before .before .before .before .before .before .before .before .before .before .before .before .before in
-    let w = turning-of _ _ _ _ _ _ _ _ _ (x .before .loop .inv) (x .loop-test .taken) in
-    let h = below-of _ _ _ _ _ _ _ _ _ (x .before .loop .inv) (x .loop-test .taken) in
-    turn-counted _ _ _ _ _ _ _ w h
-
-mul-ons : tie.Need-mul-ons Inv-loop μ-loop
-mul-ons c =
-    let x = c .before .before .before .before .before .before .before .before .before .before .before .before .before .before in
-    let w = turning-of _ _ _ _ _ _ _ _ _ (x .before .loop .inv) (x .loop-test .taken) in
-    let h = below-of _ _ _ _ _ _ _ _ _ (x .before .loop .inv) (x .loop-test .taken) in
-    on-fits _ (on-index _ _ _ _ _ _ _ _ w h _ (c .before .before .before .before .before .before .before .before .before .before .before .before .aimed .ensures) (c .before .before .before .before .before .before .before .before .before .before .if1 .taken) (c .before .before .before .before .before .before .before .before .if2 .taken))
-
-array-set-from-ons : tie.Need-array-set-from-ons Inv-loop μ-loop
-array-set-from-ons c =
-    let x = c .before .before .before .before .before .before .before .before .before .before .before .before .before .before in
-    let w = turning-of _ _ _ _ _ _ _ _ _ (x .before .loop .inv) (x .loop-test .taken) in
-    let h = below-of _ _ _ _ _ _ _ _ _ (x .before .loop .inv) (x .loop-test .taken) in
-    on-index _ _ _ _ _ _ _ _ w h _ (c .before .before .before .before .before .before .before .before .before .before .before .before .aimed .ensures) (c .before .before .before .before .before .before .before .before .before .before .if1 .taken) (c .before .before .before .before .before .before .before .before .if2 .taken)
-
 with-on-requires : tie.Need-with-on-requires Inv-loop μ-loop
 with-on-requires c κs =
-    let x = c .before .before .before .before .before .before .before .before .before .before .before .before .before .before in
+    let x = c .before .before .before .before .before .before .before .before .before .before .before .before .before .before .before in
     let w = turning-of _ _ _ _ _ _ _ _ _ (x .before .loop .inv) (x .loop-test .taken) in
     let h = below-of _ _ _ _ _ _ _ _ _ (x .before .loop .inv) (x .loop-test .taken) in
-    (on-index _ _ _ _ _ _ _ _ w h _ (c .before .before .before .before .before .before .before .before .before .before .before .before .aimed .ensures) (c .before .before .before .before .before .before .before .before .before .before .if1 .taken) (c .before .before .before .before .before .before .before .before .if2 .taken), w .ons)
+    (turn-counted _ _ _ _ _ _ _ w h, (on-index _ _ _ _ _ _ _ _ w h _ (c .before .before .before .before .before .before .before .before .before .before .before .before .before .aimed .ensures) (c .before .before .before .before .before .before .before .before .before .before .before .if1 .taken) (c .before .before .before .before .before .before .before .before .before .if2 .taken), w .ons))
 
 add-i : tie.Need-add-i Inv-loop μ-loop
 add-i c =
-    let x = c .before .before .before .before .before .before .before .before .before .before .before .before .before .before .before in
+    let x = c .before .before .before .before .before .before .before .before .before .before .before .before .before .before .before .before in
     let w = turning-of _ _ _ _ _ _ _ _ _ (x .before .loop .inv) (x .loop-test .taken) in
     let h = below-of _ _ _ _ _ _ _ _ _ (x .before .loop .inv) (x .loop-test .taken) in
     next-fits _ (turn-index _ _ _ _ _ _ _ w h)
 
 loop-less : tie.Need-loop-less Inv-loop μ-loop
-loop-less c =
-    let x = c .before .before .before .before .before .before .before .before .before .before .before .before .before .before .before in
-    less-left _ _ (x .loop-test .taken)
+loop-less c = let x = c .before .before .before .before .before .before .before .before .before .before .before .before .before .before .before .before in less-left _ _ (x .loop-test .taken)
 
 loop-again : tie.Need-loop-again Inv-loop μ-loop
 loop-again c =
-    let x = c .before .before .before .before .before .before .before .before .before .before .before .before .before .before .before in
+    let x = c .before .before .before .before .before .before .before .before .before .before .before .before .before .before .before .before in
     let w = turning-of _ _ _ _ _ _ _ _ _ (x .before .loop .inv) (x .loop-test .taken) in
     let h = below-of _ _ _ _ _ _ _ _ _ (x .before .loop .inv) (x .loop-test .taken) in
     running-again _ _ _ _ _ _ _ _ _ (x .before .loop .inv) (x .loop-test .taken) _ _ _
-    (turn-on-kept _ _ _ _ _ _ _ _ w h _ (c .before .before .before .before .before .before .before .before .before .before .before .before .before .aimed .ensures) (c .before .before .before .before .before .before .before .before .before .before .before .if1 .taken) (c .before .before .before .before .before .before .before .before .before .if2 .taken) _ _ (c .before .before .before .before .before .before .before .opened-on .ensures) _ (c .before .before .before .before .before .before .on-code .ensures) _ _ _ _ _ (c .before .before .before .before .before .drops .ensures) (c .before .before .before .before .if3 .taken) (c .before .before .before .on-taken .ensures) (c .before .before .on-view .ensures) (c .before .then .ensures) (c .with-on .ensures))
+    (⊎-elim
+    (λ y. turn-on-joined _ _ _ _ _ _ _ _ w h _ (c .before .before .before .before .before .before .before .before .before .before .before .before .before .before .aimed .ensures) (c .before .before .before .before .before .before .before .before .before .before .before .before .if1 .taken) (c .before .before .before .before .before .before .before .before .before .before .if2 .taken) _ _ (c .before .before .before .before .before .before .before .before .on-code .ensures) _ (c .before .before .before .before .before .before .before .drops .ensures) (c .before .before .before .before .before .before .if3 .taken) _ _ _ _ _ (y .3) (on-plain-left _ _ _ _ _ _ _ _ w h _ (c .before .before .before .before .before .before .before .before .before .before .before .before .before .before .aimed .ensures) (c .before .before .before .before .before .before .before .before .before .before .before .before .if1 .taken) (c .before .before .before .before .before .before .before .before .before .before .if2 .taken) _ _ (c .before .before .before .before .before .before .before .before .on-code .ensures) _ (c .before .before .before .before .before .before .before .drops .ensures) (c .before .before .before .before .before .before .if3 .taken) _ (c .before .before .before .before .is-plain-on .ensures) (y .0 .taken) _ (y .2 .ensures)) (c .before .on-view .ensures) (c .with-on .ensures))
+    (λ y. turn-on-joined _ _ _ _ _ _ _ _ w h _ (c .before .before .before .before .before .before .before .before .before .before .before .before .before .before .aimed .ensures) (c .before .before .before .before .before .before .before .before .before .before .before .before .if1 .taken) (c .before .before .before .before .before .before .before .before .before .before .if2 .taken) _ _ (c .before .before .before .before .before .before .before .before .on-code .ensures) _ (c .before .before .before .before .before .before .before .drops .ensures) (c .before .before .before .before .before .before .if3 .taken) _ _ _ _ _ (y .3) (y .2 .ensures) (c .before .on-view .ensures) (c .with-on .ensures))
+    (c .before .before .before .if4 .came))
 
-mul-opened-off : tie.Need-mul-opened-off Inv-loop μ-loop
-mul-opened-off c =
+mul-off-code : tie.Need-mul-off-code Inv-loop μ-loop
+mul-off-code c =
     let x = c .before .before .before .before .before .before in
     let w = turning-of _ _ _ _ _ _ _ _ _ (x .before .loop .inv) (x .loop-test .taken) in
     let h = below-of _ _ _ _ _ _ _ _ _ (x .before .loop .inv) (x .loop-test .taken) in
     off-fits _ (off-index _ _ _ _ _ _ _ _ w h _ (c .before .before .before .before .aimed .ensures) (c .before .before .if1 .taken) (c .if2 .left))
 
-array-copy-out-opened-off : tie.Need-array-copy-out-opened-off Inv-loop μ-loop
-array-copy-out-opened-off c =
+array-copy-out-off-code : tie.Need-array-copy-out-off-code Inv-loop μ-loop
+array-copy-out-off-code c =
     let x = c .before .before .before .before .before .before in
     let w = turning-of _ _ _ _ _ _ _ _ _ (x .before .loop .inv) (x .loop-test .taken) in
     let h = below-of _ _ _ _ _ _ _ _ _ (x .before .loop .inv) (x .loop-test .taken) in
     off-index _ _ _ _ _ _ _ _ w h _ (c .before .before .before .before .aimed .ensures) (c .before .before .if1 .taken) (c .if2 .left)
 
-opened-off-requires : tie.Need-opened-off-requires Inv-loop μ-loop
-opened-off-requires c κs = tt
-
 off-code-requires : tie.Need-off-code-requires Inv-loop μ-loop
 off-code-requires c κs =
-    let x = c .before .before .before .before .before .before .before .before in
+    let x = c .before .before .before .before .before .before .before in
     let w = turning-of _ _ _ _ _ _ _ _ _ (x .before .loop .inv) (x .loop-test .taken) in
     let h = below-of _ _ _ _ _ _ _ _ _ (x .before .loop .inv) (x .loop-test .taken) in
-    off-form _ _ _ _ _ _ _ _ w h _ (c .before .before .before .before .before .before .aimed .ensures) (c .before .before .before .before .if1 .taken) (c .before .before .if2 .left) _ _ (c .opened-off .ensures)
+    off-read _ _ _ _ _ _ _ _ w h _ (c .before .before .before .before .before .aimed .ensures) (c .before .before .before .if1 .taken) (c .before .if2 .left) _
 
 drops-requires-2 : tie.Need-drops-requires-2 Inv-loop μ-loop
 drops-requires-2 c κs = tt
 
-off-taken-requires : tie.Need-off-taken-requires Inv-loop μ-loop
-off-taken-requires c κs =
-    let x = c .before .before .before .before .before .before .before .before .before .before .before in
+is-plain-off-requires : tie.Need-is-plain-off-requires Inv-loop μ-loop
+is-plain-off-requires c κs = tt
+
+mul-plain-off : tie.Need-mul-plain-off Inv-loop μ-loop
+mul-plain-off c =
+    let x = c .before .before .before .before .before .before .before .before .before .before .before .before in
     let w = turning-of _ _ _ _ _ _ _ _ _ (x .before .loop .inv) (x .loop-test .taken) in
     let h = below-of _ _ _ _ _ _ _ _ _ (x .before .loop .inv) (x .loop-test .taken) in
-    (off-form _ _ _ _ _ _ _ _ w h _ (c .before .before .before .before .before .before .before .before .before .aimed .ensures) (c .before .before .before .before .before .before .before .if1 .taken) (c .before .before .before .before .before .if2 .left) _ _ (c .before .before .before .opened-off .ensures), (off-made _ _ _ _ _ _ _ _ w h _ (c .before .before .before .before .before .before .before .before .before .aimed .ensures) (c .before .before .before .before .before .before .before .if1 .taken) (c .before .before .before .before .before .if2 .left), not-dropped _ _ _ (c .before .before .off-code .ensures) (c .before .drops2 .ensures) (c .if4 .taken)))
+    off-fits _ (off-index _ _ _ _ _ _ _ _ w h _ (c .before .before .before .before .before .before .before .before .before .before .aimed .ensures) (c .before .before .before .before .before .before .before .before .if1 .taken) (c .before .before .before .before .before .before .if2 .left))
 
-off-view-requires : tie.Need-off-view-requires Inv-loop μ-loop
-off-view-requires c κs = tt
+array-copy-out-plain-off : tie.Need-array-copy-out-plain-off Inv-loop μ-loop
+array-copy-out-plain-off c =
+    let x = c .before .before .before .before .before .before .before .before .before .before .before .before in
+    let w = turning-of _ _ _ _ _ _ _ _ _ (x .before .loop .inv) (x .loop-test .taken) in
+    let h = below-of _ _ _ _ _ _ _ _ _ (x .before .loop .inv) (x .loop-test .taken) in
+    off-index _ _ _ _ _ _ _ _ w h _ (c .before .before .before .before .before .before .before .before .before .before .aimed .ensures) (c .before .before .before .before .before .before .before .before .if1 .taken) (c .before .before .before .before .before .before .if2 .left)
 
-then-requires-2 : tie.Need-then-requires-2 Inv-loop μ-loop
-then-requires-2 c κs =
+plain-off-requires : tie.Need-plain-off-requires Inv-loop μ-loop
+plain-off-requires c κs =
     let x = c .before .before .before .before .before .before .before .before .before .before .before .before .before in
     let w = turning-of _ _ _ _ _ _ _ _ _ (x .before .loop .inv) (x .loop-test .taken) in
     let h = below-of _ _ _ _ _ _ _ _ _ (x .before .loop .inv) (x .loop-test .taken) in
-    turn-counted _ _ _ _ _ _ _ w h
+    off-plain-needs _ _ _ _ _ _ _ _ w h _ (c .before .before .before .before .before .before .before .before .before .before .before .aimed .ensures) (c .before .before .before .before .before .before .before .before .before .if1 .taken) (c .before .before .before .before .before .before .before .if2 .left) _ _ (c .before .before .before .before .before .off-code .ensures) _ (c .before .before .before .before .drops2 .ensures) (c .before .before .before .if5 .taken) _ (c .before .before .is-plain-off .ensures) (c .before .if6 .taken)
 
 mul-offs : tie.Need-mul-offs Inv-loop μ-loop
 mul-offs c =
@@ -194,12 +273,64 @@ array-set-from-offs c =
     let h = below-of _ _ _ _ _ _ _ _ _ (x .before .loop .inv) (x .loop-test .taken) in
     off-index _ _ _ _ _ _ _ _ w h _ (c .before .before .before .before .before .before .before .before .before .before .before .before .aimed .ensures) (c .before .before .before .before .before .before .before .before .before .before .if1 .taken) (c .before .before .before .before .before .before .before .before .if2 .left)
 
+mul-off-step : tie.Need-mul-off-step Inv-loop μ-loop
+mul-off-step c =
+    let x = c .before .before .before .before .before .before .before .before .before .before .before .before in
+    let w = turning-of _ _ _ _ _ _ _ _ _ (x .before .loop .inv) (x .loop-test .taken) in
+    let h = below-of _ _ _ _ _ _ _ _ _ (x .before .loop .inv) (x .loop-test .taken) in
+    off-fits _ (off-index _ _ _ _ _ _ _ _ w h _ (c .before .before .before .before .before .before .before .before .before .before .aimed .ensures) (c .before .before .before .before .before .before .before .before .if1 .taken) (c .before .before .before .before .before .before .if2 .left))
+
+array-copy-out-off-step : tie.Need-array-copy-out-off-step Inv-loop μ-loop
+array-copy-out-off-step c =
+    let x = c .before .before .before .before .before .before .before .before .before .before .before .before in
+    let w = turning-of _ _ _ _ _ _ _ _ _ (x .before .loop .inv) (x .loop-test .taken) in
+    let h = below-of _ _ _ _ _ _ _ _ _ (x .before .loop .inv) (x .loop-test .taken) in
+    off-index _ _ _ _ _ _ _ _ w h _ (c .before .before .before .before .before .before .before .before .before .before .aimed .ensures) (c .before .before .before .before .before .before .before .before .if1 .taken) (c .before .before .before .before .before .before .if2 .left)
+
+off-step-requires : tie.Need-off-step-requires Inv-loop μ-loop
+off-step-requires c κs =
+    let x = c .before .before .before .before .before .before .before .before .before .before .before .before .before in
+    let w = turning-of _ _ _ _ _ _ _ _ _ (x .before .loop .inv) (x .loop-test .taken) in
+    let h = below-of _ _ _ _ _ _ _ _ _ (x .before .loop .inv) (x .loop-test .taken) in
+    (off-read _ _ _ _ _ _ _ _ w h _ (c .before .before .before .before .before .before .before .before .before .before .before .aimed .ensures) (c .before .before .before .before .before .before .before .before .before .if1 .taken) (c .before .before .before .before .before .before .before .if2 .left) _, (off-made _ _ _ _ _ _ _ _ w h _ (c .before .before .before .before .before .before .before .before .before .before .before .aimed .ensures) (c .before .before .before .before .before .before .before .before .before .if1 .taken) (c .before .before .before .before .before .before .before .if2 .left), off-granted _ _ _ _ _ _ _ _ w h _ (c .before .before .before .before .before .before .before .before .before .before .before .aimed .ensures) (c .before .before .before .before .before .before .before .before .before .if1 .taken) (c .before .before .before .before .before .before .before .if2 .left) _ _ (c .before .before .before .before .before .off-code .ensures) _ (c .before .before .before .before .drops2 .ensures) (c .before .before .before .if5 .taken)))
+
+mul-offs-2 : tie.Need-mul-offs-2 Inv-loop μ-loop
+mul-offs-2 c =
+    let x = c .before .before .before .before .before .before .before .before .before .before .before .before .before .before in
+    let w = turning-of _ _ _ _ _ _ _ _ _ (x .before .loop .inv) (x .loop-test .taken) in
+    let h = below-of _ _ _ _ _ _ _ _ _ (x .before .loop .inv) (x .loop-test .taken) in
+    off-fits _ (off-index _ _ _ _ _ _ _ _ w h _ (c .before .before .before .before .before .before .before .before .before .before .before .before .aimed .ensures) (c .before .before .before .before .before .before .before .before .before .before .if1 .taken) (c .before .before .before .before .before .before .before .before .if2 .left))
+
+array-set-from-offs-2 : tie.Need-array-set-from-offs-2 Inv-loop μ-loop
+array-set-from-offs-2 c =
+    let x = c .before .before .before .before .before .before .before .before .before .before .before .before .before .before in
+    let w = turning-of _ _ _ _ _ _ _ _ _ (x .before .loop .inv) (x .loop-test .taken) in
+    let h = below-of _ _ _ _ _ _ _ _ _ (x .before .loop .inv) (x .loop-test .taken) in
+    off-index _ _ _ _ _ _ _ _ w h _ (c .before .before .before .before .before .before .before .before .before .before .before .before .aimed .ensures) (c .before .before .before .before .before .before .before .before .before .before .if1 .taken) (c .before .before .before .before .before .before .before .before .if2 .left)
+
+mul-off-view : tie.Need-mul-off-view Inv-loop μ-loop
+mul-off-view c =
+    let x = c .before .before .before .before .before .before .before .before .before .before .before .before in
+    let w = turning-of _ _ _ _ _ _ _ _ _ (x .before .loop .inv) (x .loop-test .taken) in
+    let h = below-of _ _ _ _ _ _ _ _ _ (x .before .loop .inv) (x .loop-test .taken) in
+    off-fits _ (off-index _ _ _ _ _ _ _ _ w h _ (c .before .before .before .before .before .before .before .before .before .before .aimed .ensures) (c .before .before .before .before .before .before .before .before .if1 .taken) (c .before .before .before .before .before .before .if2 .left))
+
+array-copy-out-off-view : tie.Need-array-copy-out-off-view Inv-loop μ-loop
+array-copy-out-off-view c =
+    let x = c .before .before .before .before .before .before .before .before .before .before .before .before in
+    let w = turning-of _ _ _ _ _ _ _ _ _ (x .before .loop .inv) (x .loop-test .taken) in
+    let h = below-of _ _ _ _ _ _ _ _ _ (x .before .loop .inv) (x .loop-test .taken) in
+    off-index _ _ _ _ _ _ _ _ w h _ (c .before .before .before .before .before .before .before .before .before .before .aimed .ensures) (c .before .before .before .before .before .before .before .before .if1 .taken) (c .before .before .before .before .before .before .if2 .left)
+
+off-view-requires : tie.Need-off-view-requires Inv-loop μ-loop
+off-view-requires c κs = tt
+
 with-off-requires : tie.Need-with-off-requires Inv-loop μ-loop
 with-off-requires c κs =
     let x = c .before .before .before .before .before .before .before .before .before .before .before .before .before .before in
     let w = turning-of _ _ _ _ _ _ _ _ _ (x .before .loop .inv) (x .loop-test .taken) in
     let h = below-of _ _ _ _ _ _ _ _ _ (x .before .loop .inv) (x .loop-test .taken) in
-    (off-index _ _ _ _ _ _ _ _ w h _ (c .before .before .before .before .before .before .before .before .before .before .before .before .aimed .ensures) (c .before .before .before .before .before .before .before .before .before .before .if1 .taken) (c .before .before .before .before .before .before .before .before .if2 .left), up-to-eight _ (w .offs))
+    (turn-counted _ _ _ _ _ _ _ w h, (off-index _ _ _ _ _ _ _ _ w h _ (c .before .before .before .before .before .before .before .before .before .before .before .before .aimed .ensures) (c .before .before .before .before .before .before .before .before .before .before .if1 .taken) (c .before .before .before .before .before .before .before .before .if2 .left), up-to-eight _ (w .offs)))
 
 add-i-2 : tie.Need-add-i-2 Inv-loop μ-loop
 add-i-2 c =
@@ -209,9 +340,7 @@ add-i-2 c =
     next-fits _ (turn-index _ _ _ _ _ _ _ w h)
 
 loop-less-2 : tie.Need-loop-less-2 Inv-loop μ-loop
-loop-less-2 c =
-    let x = c .before .before .before .before .before .before .before .before .before .before .before .before .before .before .before in
-    less-left _ _ (x .loop-test .taken)
+loop-less-2 c = let x = c .before .before .before .before .before .before .before .before .before .before .before .before .before .before .before in less-left _ _ (x .loop-test .taken)
 
 loop-again-2 : tie.Need-loop-again-2 Inv-loop μ-loop
 loop-again-2 c =
@@ -219,54 +348,47 @@ loop-again-2 c =
     let w = turning-of _ _ _ _ _ _ _ _ _ (x .before .loop .inv) (x .loop-test .taken) in
     let h = below-of _ _ _ _ _ _ _ _ _ (x .before .loop .inv) (x .loop-test .taken) in
     running-again _ _ _ _ _ _ _ _ _ (x .before .loop .inv) (x .loop-test .taken) _ _ _
-    (turn-off-kept _ _ _ _ _ _ _ _ w h _ (c .before .before .before .before .before .before .before .before .before .before .before .before .before .aimed .ensures) (c .before .before .before .before .before .before .before .before .before .before .before .if1 .taken) (c .before .before .before .before .before .before .before .before .before .if2 .left) _ _ (c .before .before .before .before .before .before .before .opened-off .ensures) _ (c .before .before .before .before .before .before .off-code .ensures) _ _ _ _ _ (c .before .before .before .before .before .drops2 .ensures) (c .before .before .before .before .if4 .taken) (c .before .before .before .off-taken .ensures) (c .before .before .off-view .ensures) (c .before .then2 .ensures) (c .with-off .ensures))
+    (⊎-elim
+    (λ y. turn-off-joined _ _ _ _ _ _ _ _ w h _ (c .before .before .before .before .before .before .before .before .before .before .before .before .before .aimed .ensures) (c .before .before .before .before .before .before .before .before .before .before .before .if1 .taken) (c .before .before .before .before .before .before .before .before .before .if2 .left) _ _ (c .before .before .before .before .before .before .before .off-code .ensures) _ (c .before .before .before .before .before .before .drops2 .ensures) (c .before .before .before .before .before .if5 .taken) _ _ _ _ _ (y .3) (off-plain-left _ _ _ _ _ _ _ _ w h _ (c .before .before .before .before .before .before .before .before .before .before .before .before .before .aimed .ensures) (c .before .before .before .before .before .before .before .before .before .before .before .if1 .taken) (c .before .before .before .before .before .before .before .before .before .if2 .left) _ _ (c .before .before .before .before .before .before .before .off-code .ensures) _ (c .before .before .before .before .before .before .drops2 .ensures) (c .before .before .before .before .before .if5 .taken) _ (c .before .before .before .before .is-plain-off .ensures) (y .0 .taken) _ (y .2 .ensures)) (c .before .off-view .ensures) (c .with-off .ensures))
+    (λ y. turn-off-joined _ _ _ _ _ _ _ _ w h _ (c .before .before .before .before .before .before .before .before .before .before .before .before .before .aimed .ensures) (c .before .before .before .before .before .before .before .before .before .before .before .if1 .taken) (c .before .before .before .before .before .before .before .before .before .if2 .left) _ _ (c .before .before .before .before .before .before .before .off-code .ensures) _ (c .before .before .before .before .before .before .drops2 .ensures) (c .before .before .before .before .before .if5 .taken) _ _ _ _ _ (y .3) (y .2 .ensures) (c .before .off-view .ensures) (c .with-off .ensures))
+    (c .before .before .before .if6 .came))
 
-none-requires : tie.Need-none-requires Inv-loop μ-loop
-none-requires c κs = tt
-
-then-requires-3 : tie.Need-then-requires-3 Inv-loop μ-loop
-then-requires-3 c κs =
-    let x = c .before .before .before .before .before in
+past-requires : tie.Need-past-requires Inv-loop μ-loop
+past-requires c κs =
+    let x = c .before .before .before .before in
     let w = turning-of _ _ _ _ _ _ _ _ _ (x .before .loop .inv) (x .loop-test .taken) in
     let h = below-of _ _ _ _ _ _ _ _ _ (x .before .loop .inv) (x .loop-test .taken) in
     turn-counted _ _ _ _ _ _ _ w h
 
 add-i-3 : tie.Need-add-i-3 Inv-loop μ-loop
 add-i-3 c =
-    let x = c .before .before .before .before .before .before in
+    let x = c .before .before .before .before .before in
     let w = turning-of _ _ _ _ _ _ _ _ _ (x .before .loop .inv) (x .loop-test .taken) in
     let h = below-of _ _ _ _ _ _ _ _ _ (x .before .loop .inv) (x .loop-test .taken) in
     next-fits _ (turn-index _ _ _ _ _ _ _ w h)
 
 loop-less-3 : tie.Need-loop-less-3 Inv-loop μ-loop
-loop-less-3 c =
-    let x = c .before .before .before .before .before .before in
-    less-left _ _ (x .loop-test .taken)
+loop-less-3 c = let x = c .before .before .before .before .before in less-left _ _ (x .loop-test .taken)
 
 loop-again-3 : tie.Need-loop-again-3 Inv-loop μ-loop
 loop-again-3 c =
-    let x = c .before .before .before .before .before .before in
+    let x = c .before .before .before .before .before in
     let w = turning-of _ _ _ _ _ _ _ _ _ (x .before .loop .inv) (x .loop-test .taken) in
     let h = below-of _ _ _ _ _ _ _ _ _ (x .before .loop .inv) (x .loop-test .taken) in
-    let e = c .before .before .before .before .aimed .ensures in
+    let e = c .before .before .before .aimed .ensures in
     running-again _ _ _ _ _ _ _ _ _ (x .before .loop .inv) (x .loop-test .taken) _ _ _
     (⊎-elim
-    (λ y. turn-on-dropped _ _ _ _ _ _ _ _ w h _ e (y .0 .taken) (y .2 .taken) _ _ (y .4 .ensures) _ (ap (λ (a : Aim). a .code) (y .8) ∙ y .5 .ensures) _ _ _ (y .6 .ensures ∙ ap (λ (a : Aim). drops (a .code)) (sym (y .8))) (y .7 .left) (c .before .none .ensures) (c .then3 .ensures))
+    (λ y. turn-on-past _ _ _ _ _ _ _ _ w h _ e (y .0 .taken) (y .2 .taken) _ _ _ _ _ (y .4 .ensures) (y .5 .ensures) (y .6 .left) (ap (λ (a : Aim). a .code) (y .7)) (c .past .ensures))
     (⊎-elim
-    (λ y. turn-off-dropped _ _ _ _ _ _ _ _ w h _ e (y .0 .taken) (y .2 .left) _ _ (y .4 .ensures) _ (ap (λ (a : Aim). a .code) (y .8) ∙ y .5 .ensures) _ _ _ (y .6 .ensures ∙ ap (λ (a : Aim). drops (a .code)) (sym (y .8))) (y .7 .left) (c .before .none .ensures) (c .then3 .ensures))
-    (λ y. turn-missed _ _ _ _ _ _ _ _ w h _ _ _ _ e (y .0 .left) (ap (λ (a : Aim). a .code) (y .1)) (c .before .none .ensures) (c .then3 .ensures)))
-    (c .before .before .if1 .came))
+    (λ y. turn-off-past _ _ _ _ _ _ _ _ w h _ e (y .0 .taken) (y .2 .left) _ _ _ _ _ (y .4 .ensures) (y .5 .ensures) (y .6 .left) (ap (λ (a : Aim). a .code) (y .7)) (c .past .ensures))
+    (λ y. turn-missed-past _ _ _ _ _ _ _ _ w h _ _ _ e (y .0 .left) (ap (λ (a : Aim). a .code) (y .1)) (c .past .ensures)))
+    (c .before .if1 .came))
 
-changed-requires : tie.Need-changed-requires Inv-loop μ-loop
-changed-requires c κs = tt
-
-answered-requires : tie.Need-answered-requires Inv-loop μ-loop
-answered-requires c κs = tt
+ended-requires : tie.Need-ended-requires Inv-loop μ-loop
+ended-requires c κs = tt
 
 returns : tie.Need-returns Inv-loop μ-loop
-returns c =
-    let s = c .before .before in
-    running-end _ _ _ _ _ _ _ _ _ (s .before .loop .inv) (s .loop-test .left) (c .answered .ensures ∙ (λ k. answered (c .before .changed .ensures k) (s .before .loop .done)))
+returns c = let s = c .before in running-end _ _ _ _ _ _ _ _ _ (s .before .loop .inv) (s .loop-test .left) (c .ended .ensures)
 
 pub deliver-spec : {M : Type 1} → statement M
 deliver-spec =
@@ -274,43 +396,60 @@ deliver-spec =
     (tie.spec
     Inv-loop
     μ-loop
+    of-requires
     loop-holds
     mul-r
     element-copy-out-r
     aimed-requires
-    mul-opened-on
-    array-copy-out-opened-on
-    opened-on-requires
+    mul-on-code
+    array-copy-out-on-code
     on-code-requires
     drops-requires
-    on-taken-requires
-    on-view-requires
-    then-requires
+    mul-is-plain-on
+    array-copy-out-is-plain-on
+    is-plain-on-requires
+    mul-plain-on
+    array-copy-out-plain-on
+    plain-on-requires
     mul-ons
     array-set-from-ons
+    mul-on-step
+    array-copy-out-on-step
+    on-step-requires
+    mul-ons-2
+    array-set-from-ons-2
+    mul-on-view
+    array-copy-out-on-view
+    on-view-requires
     with-on-requires
     add-i
     loop-less
     loop-again
-    mul-opened-off
-    array-copy-out-opened-off
-    opened-off-requires
+    mul-off-code
+    array-copy-out-off-code
     off-code-requires
     drops-requires-2
-    off-taken-requires
-    off-view-requires
-    then-requires-2
+    is-plain-off-requires
+    mul-plain-off
+    array-copy-out-plain-off
+    plain-off-requires
     mul-offs
     array-set-from-offs
+    mul-off-step
+    array-copy-out-off-step
+    off-step-requires
+    mul-offs-2
+    array-set-from-offs-2
+    mul-off-view
+    array-copy-out-off-view
+    off-view-requires
     with-off-requires
     add-i-2
     loop-less-2
     loop-again-2
-    none-requires
-    then-requires-3
+    past-requires
     add-i-3
     loop-less-3
     loop-again-3
-    changed-requires
-    answered-requires
+    ended-requires
     returns)

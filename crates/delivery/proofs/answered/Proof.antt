@@ -1,9 +1,0 @@
-use borrow.Author.Needs.{needs}
-use Rattle.delivery.proofs.answered.Statement.{statement}
-use Rattle.delivery.proofs.answered.Tie as tie
-
-returns : tie.Need-returns
-returns c = search needs
-
-pub answered-spec : {M : Type 1} → statement M
-answered-spec = tie.close (tie.spec returns)

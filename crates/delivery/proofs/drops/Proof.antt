@@ -1,9 +1,0 @@
-use borrow.Author.Needs.{needs}
-use Rattle.delivery.proofs.drops.Statement.{statement}
-use Rattle.delivery.proofs.drops.Tie as tie
-
-returns : tie.Need-returns
-returns c = search needs
-
-pub drops-spec : {M : Type 1} → statement M
-drops-spec = tie.close (tie.spec returns)
