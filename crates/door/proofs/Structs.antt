@@ -27,12 +27,12 @@ use Rattle.calls.proofs.Sent as Sent
 use Rattle.calls.proofs.Sent.Laws as Sent′
 use Rattle.calls.proofs.Done as Done
 use Rattle.calls.proofs.Done.Laws as Done′
-use Rattle.crossing.proofs.Arrival as Arrival
-use Rattle.crossing.proofs.Arrival.Laws as Arrival′
-use Rattle.crossing.proofs.Arrived as Arrived
-use Rattle.crossing.proofs.Arrived.Laws as Arrived′
-use Rattle.crossing.proofs.Numbered as Numbered
-use Rattle.crossing.proofs.Numbered.Laws as Numbered′
+use Rattle.lending.proofs.Arrival as Arrival
+use Rattle.lending.proofs.Arrival.Laws as Arrival′
+use Rattle.lending.proofs.Arrived as Arrived
+use Rattle.lending.proofs.Arrived.Laws as Arrived′
+use Rattle.renewal.proofs.Numbered as Numbered
+use Rattle.renewal.proofs.Numbered.Laws as Numbered′
 use Rattle.walks.proofs.Abstract.{ownOf, Str, StrLaws}
 
 abbrev pub table-str : Str

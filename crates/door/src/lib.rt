@@ -2,7 +2,7 @@
 // nothing is asked of the host but what Rust asks of a reference.
 use calls::Handles;
 use calls::Names;
-use crossing::Arrival;
+use lending::Arrival;
 use packet::Key;
 use packet::Prepared;
 use packet::Record;
@@ -12,16 +12,18 @@ ghost use mathlib.Core.Path.{_≡_};
 ghost use mathlib.Core.Bool.{cond};
 ghost use Rattle.table.specs.Table.{wfb};
 ghost use Rattle.calls.specs.Calls.{acceptedOut, channelOf, nextOf, nextLent, preparedBy, wroteAcks, resendsOf, resendsLent, holdsOf, lastPrefix, resetOf, transferOf};
+ghost use Rattle.renewal.specs.Renewal.{renewed};
 ghost use Rattle.crossing.specs.Crossing as Spec;
-ghost use Rattle.door.specs.Door.{sizeOf};
+ghost use Rattle.lending.specs.Lending.{delivered};
+ghost use Rattle.sizes.specs.Sizes.{sizeOf};
 
 // A new table, forwarding or not, in the place of whatever was there: 0. For a flag other than 0 or 1 it is 2, and the memory is as it was.
 #[no_mangle]
 pub extern "C" fn relay_new(t: &mut Table, forwarding: u32) -> u32
-    ensures { λ r. ⌜ (now (t .exit) ≡ Spec.renewed (now (t .entry)) forwarding .table) × (r ≡ Spec.renewed (now (t .entry)) forwarding .number) ⌝ }
+    ensures { λ r. ⌜ (now (t .exit) ≡ renewed (now (t .entry)) forwarding .table) × (r ≡ renewed (now (t .entry)) forwarding .number) ⌝ }
 {
     let c = *t;
-    let s = crossing::renewed(c, forwarding);
+    let s = renewal::renewed(c, forwarding);
     *t = s.table;
     s.number
 }
@@ -32,7 +34,7 @@ pub extern "C" fn relay_well_formed(t: &Table) -> u32
     ensures { λ r. ⌜ r ≡ cond (wfb (now (t .entry))) 1 0 ⌝ }
 {
     let c = *t;
-    let n = crossing::formed(c);
+    let n = renewal::formed(c);
     n
 }
 
@@ -45,13 +47,13 @@ pub extern "C" fn relay_accept(
     records: &[Record],
     answer: &mut Arrival,
 ) -> u32
-    ensures { λ r. ⌜ (now (t .exit) ≡ Spec.delivered (now (t .entry)) time address (now (records .entry)) .table)
-        × (now (answer .exit) ≡ Spec.delivered (now (t .entry)) time address (now (records .entry)) .answer)
-        × (r ≡ Spec.delivered (now (t .entry)) time address (now (records .entry)) .code) ⌝ }
+    ensures { λ r. ⌜ (now (t .exit) ≡ delivered (now (t .entry)) time address (now (records .entry)) .table)
+        × (now (answer .exit) ≡ delivered (now (t .entry)) time address (now (records .entry)) .answer)
+        × (r ≡ delivered (now (t .entry)) time address (now (records .entry)) .code) ⌝ }
 {
     let c = *t;
     let b = batches::batch_of(records);
-    let s = crossing::delivery(c, time, address, b);
+    let s = lending::delivery(c, time, address, b);
     *t = s.table;
     *answer = s.answer;
     s.code
@@ -102,7 +104,7 @@ pub extern "C" fn relay_next_bundle(t: &mut Table, k: &Key, lent: &mut [u32]) ->
 {
     let c = *t;
     let d = *k;
-    let s = crossing::next_number(c, d, lent);
+    let s = lending::next_number(c, d, lent);
     *t = s.table;
     s.number
 }
@@ -157,7 +159,7 @@ pub extern "C" fn relay_take_resends(
         × (r ≡ Spec.rowsNumber (resendsOf (now (t .entry)) time timeout giveup (now (lent .entry)))) ⌝ }
 {
     let c = *t;
-    let s = crossing::resend_number(c, time, timeout, giveup, lent);
+    let s = lending::resend_number(c, time, timeout, giveup, lent);
     *t = s.table;
     s.number
 }
@@ -210,29 +212,5 @@ pub extern "C" fn relay_transfer_prefix_offset(t: &mut Table) -> u32
 pub extern "C" fn relay_size(what: u32) -> u32
     ensures { λ r. ⌜ r ≡ sizeOf what ⌝ }
 {
-    if what == 0 {
-        return 43584;
-    }
-    if what == 1 {
-        return 96;
-    }
-    if what == 2 {
-        return 16;
-    }
-    if what == 3 {
-        return 20;
-    }
-    if what == 4 {
-        return 24;
-    }
-    if what == 5 {
-        return 28;
-    }
-    if what == 6 {
-        return 68;
-    }
-    if what == 7 {
-        return 260;
-    }
-    0
+    sizes::size(what)
 }

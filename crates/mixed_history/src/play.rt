@@ -1,5 +1,4 @@
 // One step of the history: a call with what is drawn for it, and its answer written out.
-use crate::draw;
 use packet::Prepared;
 use packet::View;
 use table::Table;
@@ -43,42 +42,6 @@ fn find(t: Table, step: u32) -> Table {
     f.table
 }
 
-// The first n of the lent list.
-fn list_of(l: [u32; 64], n: u32) {
-    let m = n as usize;
-    for i in 0..64 {
-        if i < m {
-            print::number(l[i]);
-        }
-    }
-}
-
-fn hand_out(t: Table, step: u32) -> Table {
-    let k = draw::key(step);
-    let mut list: [u32; 64] = [0; 64];
-    let p = handout::next_bundle(t, k, &mut list);
-    print::text(b"next");
-    print::granted(p.code);
-    print::number(p.some);
-    print::number(p.len);
-    list_of(list, p.len);
-    p.table
-}
-
-fn hand_out_short(t: Table, step: u32) -> Table {
-    let k = draw::key(step);
-    let mut list: [u32; 1] = [0; 1];
-    let p = handout::next_bundle(t, k, &mut list);
-    print::text(b"next");
-    print::granted(p.code);
-    print::number(p.some);
-    print::number(p.len);
-    if p.some == 1 {
-        print::number(list[0]);
-    }
-    p.table
-}
-
 fn show_sent(p: Prepared) {
     print::number(p.allocated);
     print::number(p.first);
@@ -107,44 +70,6 @@ fn wrote(t: Table, step: u32) -> Table {
     print::text(b"wrote");
     print::granted(d.code);
     d.table
-}
-
-// The rows, two numbers each, in the lent list.
-fn rows_of(l: [u32; 768], n: u32) {
-    let m = n as usize;
-    for i in 0..384 {
-        if i < m {
-            print::number(l[2 * i]);
-            print::number(l[2 * i + 1]);
-        }
-    }
-}
-
-fn resend(t: Table, step: u32) -> Table {
-    let timeout = draw::pick(step, 0, 56, 2000) as u64;
-    let give_up = draw::pick(step, 0, 57, 20000) as u64;
-    let mut list: [u32; 768] = [0; 768];
-    let r = resends::take_resends(t, draw::time(step), timeout, give_up, &mut list);
-    print::text(b"resend");
-    print::granted(r.code);
-    print::number(r.rows);
-    rows_of(list, r.rows);
-    r.table
-}
-
-fn resend_short(t: Table, step: u32) -> Table {
-    let timeout = draw::pick(step, 0, 56, 2000) as u64;
-    let give_up = draw::pick(step, 0, 57, 20000) as u64;
-    let mut list: [u32; 2] = [0; 2];
-    let r = resends::take_resends(t, draw::time(step), timeout, give_up, &mut list);
-    print::text(b"resend");
-    print::granted(r.code);
-    print::number(r.rows);
-    if r.rows == 1 {
-        print::number(list[0]);
-        print::number(list[1]);
-    }
-    r.table
 }
 
 fn held(t: Table, step: u32) -> Table {
@@ -190,9 +115,9 @@ pub fn call(t: Table, step: u32, k: u32) -> Table {
     }
     if k < 76 {
         if draw::short(step) {
-            return hand_out_short(t, step);
+            return handed::hand_out_short(t, step);
         }
-        return hand_out(t, step);
+        return handed::hand_out(t, step);
     }
     if k < 84 {
         return prepare(t, step);
@@ -202,9 +127,9 @@ pub fn call(t: Table, step: u32, k: u32) -> Table {
     }
     if k < 94 {
         if draw::short(step) {
-            return resend_short(t, step);
+            return handed::resend_short(t, step);
         }
-        return resend(t, step);
+        return handed::resend(t, step);
     }
     if k < 96 {
         return held(t, step);

@@ -1,2 +1,1 @@
 pub mod OutKept
-pub mod AcksKept

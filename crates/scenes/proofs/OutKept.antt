@@ -1,5 +1,5 @@
 -- What a scene does to a well-formed out list leaves one. Assumes nothing.
-use mathlib.Core.Path.{_≡_, sym, _∙_}
+use mathlib.Core.Path.{_≡_, sym, ap, _∙_}
 use mathlib.Core.Bool.{Bool, true}
 use mathlib.Core.List.{List, [], _∷_, _++_, map}
 use Prim.Native.Nat.{ℕ, _+_, _≤_, _<_}
@@ -7,7 +7,7 @@ use native.Mathlib.Omega.{arith}
 use borrow.Author.Needs.{needs}
 use borrow.Author.Tests.{leb-true}
 use lib.Dec.{leb}
-use lib.ListN.{length, length-append, length-map, replicate, length-replicate}
+use lib.ListN.{length, length-append, length-map}
 use Rattle.lists.specs.Find.{keepBy}
 use Rattle.lists.proofs.Find.{length-keep}
 use Rattle.packet.specs.declared.OutEntry.{OutEntry}
@@ -15,7 +15,9 @@ use Rattle.model.specs.Acks.{ackSingle, ackSingles, ackCumulative, insertOut}
 use Rattle.model.specs.Rust.{young, due, mark, row}
 use Rattle.out_list.specs.declared.OutList.{OutList}
 use Rattle.out_list.specs.Out.{abs, repr, Wf}
-use Rattle.out_resends.specs.Resends.{dueRows}
+use Rattle.model.specs.Calls.{flat}
+use Rattle.listing.specs.declared.Listed.{Listed}
+use Rattle.listing.specs.Listing.{listRows, listSent, listed}
 use Rattle.out_list.proofs.Form.{wf-len, wf-le, wf-of}
 use Rattle.out_resends.proofs.Rows.{length-flat}
 use Rattle.out_list.proofs.Acks.{length-ackSingles, length-ackCumulative}
@@ -43,22 +45,24 @@ module _ (o r : OutList) (w : Wf o) where
   pub cumulative-kept : (n : ℕ) → r ≡ repr (ackCumulative n (abs o)) → Wf r
   cumulative-kept n q = wf-of r (ackCumulative n (abs o)) q (omega (arith, length-ackCumulative n (abs o), wf-le o w))
 
-  pub young-kept : (t age : ℕ) → r ≡ repr (keepBy (young t age) (abs o)) → Wf r
-  young-kept t age q = wf-of r (keepBy (young t age) (abs o)) q (omega (arith, length-keep (young t age) (abs o), wf-le o w))
+module _ (o : OutList) (address t timeout age : ℕ) (w : Wf o) where
+  pub sent-kept : (s : Listed) → s ≡ listed address t timeout age o 0 → Wf (s .out)
+  unfolding listSent
+  sent-kept s e =
+      let l = keepBy (young t age) (abs o) in
+      wf-of (s .out) (map (mark t timeout) l) (ap (λ (x : Listed). x .out) e) (omega (arith, length-map l (mark t timeout), length-keep (young t age) (abs o), wf-le o w))
 
-  pub mark-kept : (t timeout : ℕ) → r ≡ repr (map (mark t timeout) (abs o)) → Wf r
-  mark-kept t timeout q = wf-of r (map (mark t timeout) (abs o)) q (omega (arith, length-map (abs o) (mark t timeout), wf-le o w))
-
-module _ (o : OutList) (address t timeout : ℕ) (w : Wf o) where
-  pub rows-few : length (dueRows address t timeout (abs o)) ≤ 64
+  rows-few : length (flat (listRows address t timeout age o)) ≤ 64
+  unfolding listRows
   rows-few =
-      omega (arith, length-flat (map (row address) (keepBy (due t timeout) (abs o))), length-map (keepBy (due t timeout) (abs o)) (row address), length-keep (due t timeout) (abs o), wf-le o w)
+      let l = keepBy (young t age) (abs o) in
+      omega (arith, length-flat (map (row address) (keepBy (due t timeout) l)), length-map (keepBy (due t timeout) l) (row address), length-keep (due t timeout) l, length-keep (young t age) (abs o), wf-le o w)
 
-  pub rows-fit : (l : List ℕ) → 64 ≡ length l → 0 + length (dueRows address t timeout (abs o)) ≤ length l
+  pub rows-fit : (l : List ℕ) → 64 ≡ length l → 0 + length (flat (listRows address t timeout age o)) ≤ length l
   rows-fit l h = omega (arith, rows-few)
 
-  pub rows-end : (n : ℕ) → n ≡ 0 + length (dueRows address t timeout (abs o)) → n ≤ 64
-  rows-end n q = omega (arith, rows-few)
+  pub rows-end : (s : Listed) → s ≡ listed address t timeout age o 0 → s .next ≤ 64
+  rows-end s e = let n : s .next ≡ 0 + length (flat (listRows address t timeout age o)) = ap (λ (x : Listed). x .next) e in omega (arith, rows-few)
 
 pub ruleset kept =
-    (new-kept, room-is, send-kept, forward-kept, ack-kept, acks-kept, cumulative-kept, young-kept, mark-kept, rows-fit, rows-end, needs)
+    (new-kept, room-is, send-kept, forward-kept, ack-kept, acks-kept, cumulative-kept, sent-kept, rows-fit, rows-end, needs)

@@ -1,6 +1,5 @@
 // Short scenes over a channel's out list and ack queue, each from a new list and each at an edge of 01's rules. A scene writes one
 // line: what was done, and after the colon what came of it.
-mod acks;
 mod out;
 
 fn main() {
@@ -15,9 +14,9 @@ fn main() {
     out::never_due();
     out::held();
     out::tested();
-    acks::limit();
-    acks::forwarded();
-    acks::forwarded_cumulative();
-    acks::written();
-    acks::tested();
+    ack_scenes::limit();
+    ack_scenes::forwarded();
+    ack_scenes::forwarded_cumulative();
+    ack_scenes::written();
+    ack_scenes::tested();
 }

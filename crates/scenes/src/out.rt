@@ -1,7 +1,6 @@
 // Scenes of the out list: reliable packets sent and not yet acknowledged.
 use out_list::OutList;
 use packet::OutEntry;
-ghost use mathlib.Core.Path.{_≡_};
 ghost use Rattle.out_list.specs.Out.{Wf};
 
 // ---- what a scene does
@@ -96,19 +95,14 @@ fn ack_to(o: OutList, number: u32) -> OutList
     out_list::ack_out_reliable_packet_cumulative(o, number)
 }
 
-// "drop entries whose age is not below give-up"
-fn give_up(o: OutList, time: u64, age: u64) -> OutList
+// What a resend leaves of the list.
+fn resent(o: OutList, time: u64, timeout: u64, age: u64) -> OutList
     requires { ⌜ Wf o ⌝ }
     ensures { λ r. ⌜ Wf r ⌝ }
 {
-    out_resends::drop_given_up(o, time, age)
-}
-
-fn mark(o: OutList, time: u64, timeout: u64) -> OutList
-    requires { ⌜ Wf o ⌝ }
-    ensures { λ r. ⌜ Wf r ⌝ }
-{
-    out_resends::mark_due(o, time, timeout)
+    let mut rows: [u32; 64] = [0; 64];
+    let s = listing::resend_list(o, 7, time, timeout, age, &mut rows, 0);
+    s.out
 }
 
 // ---- what a scene shows
@@ -169,11 +163,12 @@ fn show_room(name: &[u8], o: OutList, number: u32)
 }
 
 // The handles of the rows that are due.
-fn show_due(o: OutList, time: u64, timeout: u64)
+fn show_due(o: OutList, time: u64, timeout: u64, age: u64)
     requires { ⌜ Wf o ⌝ }
 {
     let mut rows: [u32; 64] = [0; 64];
-    let n = out_resends::write_due(o, 7, time, timeout, &mut rows, 0);
+    let s = listing::resend_list(o, 7, time, timeout, age, &mut rows, 0);
+    let n = s.next;
     let mut k: usize = 0;
     while k + 1 < n {
         print::number(rows[k + 1]);
@@ -189,10 +184,9 @@ fn resend(name: &[u8], o: OutList, time: u64, timeout: u64, age: u64)
     print::text(b" rows");
     print::number(out_resends::count_due_young(o, time, timeout, age));
     print::text(b" |");
-    let kept = give_up(o, time, age);
-    show_due(kept, time, timeout);
+    show_due(o, time, timeout, age);
     print::text(b" |");
-    show_whole(b"", mark(kept, time, timeout));
+    show_whole(b"", resent(o, time, timeout, age));
 }
 
 fn show_holds(o: OutList, handle: u32)
@@ -296,7 +290,7 @@ pub fn due() {
     let o = sent_at(10);
     resend(b"a resend at its timeout:", o, 60, 50, 100);
     resend(b"a resend one below its timeout:", o, 59, 50, 100);
-    let marked = mark(o, 60, 50);
+    let marked = resent(o, 60, 50, 1_000_000);
     resend(b"a second resend at its timeout:", marked, 110, 50, 200);
     resend(
         b"a second resend one below its timeout:",

@@ -34,33 +34,33 @@ use denote.Triple.Clauses.{ensured, lasts}
 use denote.Triple.Table.{entered, cited}
 use denote.Triple.Walked.{says, Stays, stay-ref, stay-none, stay-none-slice, walkOf, AllGo, goes-none, goes-ref, goes-none-slice, Walks, ends-at, walked, walk-meets}
 use denote.Exit.{yes}
-use Rattle.crossing.specs.Crossing as Spec
+use Rattle.lending.specs.Lending as Spec
 use Rattle.calls.specs.Calls.{accepted}
 use Rattle.batches.specs.Batches.{batchOf}
-use Rattle.crossing.proofs.Numbers.{delivered-is}
+use Rattle.lending.proofs.Lending.{delivered-is}
 use Rattle.table.specs.declared.Table.{Table}
 use Rattle.table.proofs.Table as T0
 use Rattle.table.proofs.Table.Laws as T0′
 use Rattle.packet.specs.declared.Record.{Record}
 use Rattle.packet.proofs.Record as T1
 use Rattle.packet.proofs.Record.Laws as T1′
-use Rattle.crossing.specs.declared.Arrival.{Arrival}
-use Rattle.crossing.proofs.Arrival as T2
-use Rattle.crossing.proofs.Arrival.Laws as T2′
+use Rattle.lending.specs.declared.Arrival.{Arrival}
+use Rattle.lending.proofs.Arrival as T2
+use Rattle.lending.proofs.Arrival.Laws as T2′
 use Rattle.calls.specs.declared.Batch.{Batch}
 use Rattle.calls.proofs.Batch as T3
 use Rattle.calls.proofs.Batch.Laws as T3′
-use Rattle.crossing.specs.declared.Arrived.{Arrived}
-use Rattle.crossing.proofs.Arrived as T4
-use Rattle.crossing.proofs.Arrived.Laws as T4′
+use Rattle.lending.specs.declared.Arrived.{Arrived}
+use Rattle.lending.proofs.Arrived as T4
+use Rattle.lending.proofs.Arrived.Laws as T4′
 use Rattle.batches.proofs.batch_of as g1
 use Rattle.batches.proofs.batch_of.Symbol as g1-def
 use Rattle.batches.proofs.batch_of.Symbol.{name as #g1}
 use Rattle.batches.proofs.batch_of.Met as g1-thm
-use Rattle.crossing.proofs.delivery as g2
-use Rattle.crossing.proofs.delivery.Symbol as g2-def
-use Rattle.crossing.proofs.delivery.Symbol.{name as #g2}
-use Rattle.crossing.proofs.delivery.Met as g2-thm
+use Rattle.lending.proofs.delivery as g2
+use Rattle.lending.proofs.delivery.Symbol as g2-def
+use Rattle.lending.proofs.delivery.Symbol.{name as #g2}
+use Rattle.lending.proofs.delivery.Met as g2-thm
 use Rattle.door.proofs.relay_accept.Key.{name as #f}
 use Rattle.door.proofs.relay_accept as f
 use Rattle.door.proofs.relay_accept.Statement as stated
@@ -124,7 +124,7 @@ module _ {M : Type 1} (𝓤 : URA M) (H : Heap 𝓤) (A : Atoms 𝓤) (W : Given
   said-1 : (r1 : Batch) → ent 𝓤 (ensured 𝓤 H A g1.ended (g1.clauses 𝓤 H A at-mem run) (records-κ, tt) (records-ref, tt) tt r1) (fact 𝓤 (r1 ≡ batchOf records))
   said-1 r1 = exE 𝓤 _ (λ ws. snd∗ 𝓤 (sem 𝓤 H A (lasts g1.ended (records-κ, tt) (records-ref, tt) ws)) (fact 𝓤 (r1 ≡ batchOf records)))
 
-  -- the call of `crossing::delivery`: what it binds, what it asks, and what is known of its result
+  -- the call of `lending::delivery`: what it binds, what it asks, and what is known of its result
   abbrev to-2 : (r1 : Batch) → Call2 𝓤 H A at-mem run .Ghost
   to-2 r1 = ((tt, tt, tt, (t, (time, (address, (r1, tt)))), ((m0 t) ∷ [], ((vint w64 time) ∷ [], ((vint w32 address) ∷ [], ((m3 r1) ∷ [], tt))))), tt)
 
@@ -184,4 +184,4 @@ relay-accept-spec 𝓤 H 𝓜 𝓖 𝓡 =
     (tables 𝓤 H 𝓜 𝓡 code.env .C) (tables 𝓤 H 𝓜 𝓡 code.env .Λ) #f code.function (code.unfolded 𝓤 H 𝓜 𝓡)
     (f-meets 𝓤 H (𝓖 .A) (givenOf 𝓤 H 𝓜 𝓖) (𝓜 .mem) (𝓡 .run) (tablesOf 𝓤 H 𝓜 (tables 𝓤 H 𝓜 𝓡 code.env))
     (cited 𝓤 H (Call1 𝓤 H (𝓖 .A) (𝓜 .mem) (𝓡 .run)) 𝓜 𝓡 code.env #g1 g1-def.routine code.calls-batches·batch-of (g1-thm.met 𝓤 H 𝓜 𝓖 𝓡))
-    (cited 𝓤 H (Call2 𝓤 H (𝓖 .A) (𝓜 .mem) (𝓡 .run)) 𝓜 𝓡 code.env #g2 g2-def.routine code.calls-crossing·delivery (g2-thm.met 𝓤 H 𝓜 𝓖 𝓡)))
+    (cited 𝓤 H (Call2 𝓤 H (𝓖 .A) (𝓜 .mem) (𝓡 .run)) 𝓜 𝓡 code.env #g2 g2-def.routine code.calls-lending·delivery (g2-thm.met 𝓤 H 𝓜 𝓖 𝓡)))

@@ -32,17 +32,17 @@ use denote.Triple.Clauses.{ensured, lasts}
 use denote.Triple.Table.{entered, cited}
 use denote.Triple.Walked.{says, Stays, stay-ref, stay-none, walkOf, AllGo, goes-none, goes-ref, Walks, ends-at, walked, walk-meets}
 use denote.Exit.{yes}
-use Rattle.crossing.specs.Crossing as Spec
+use Rattle.renewal.specs.Renewal.{renewed}
 use Rattle.table.specs.declared.Table.{Table}
 use Rattle.table.proofs.Table as T0
 use Rattle.table.proofs.Table.Laws as T0′
-use Rattle.crossing.specs.declared.Numbered.{Numbered}
-use Rattle.crossing.proofs.Numbered as T1
-use Rattle.crossing.proofs.Numbered.Laws as T1′
-use Rattle.crossing.proofs.renewed as g1
-use Rattle.crossing.proofs.renewed.Symbol as g1-def
-use Rattle.crossing.proofs.renewed.Symbol.{name as #g1}
-use Rattle.crossing.proofs.renewed.Met as g1-thm
+use Rattle.renewal.specs.declared.Numbered.{Numbered}
+use Rattle.renewal.proofs.Numbered as T1
+use Rattle.renewal.proofs.Numbered.Laws as T1′
+use Rattle.renewal.proofs.renewed as g1
+use Rattle.renewal.proofs.renewed.Symbol as g1-def
+use Rattle.renewal.proofs.renewed.Symbol.{name as #g1}
+use Rattle.renewal.proofs.renewed.Met as g1-thm
 use Rattle.door.proofs.relay_new.Key.{name as #f}
 use Rattle.door.proofs.relay_new as f
 use Rattle.door.proofs.relay_new.Statement as stated
@@ -75,17 +75,17 @@ module _ {M : Type 1} (𝓤 : URA M) (H : Heap 𝓤) (A : Atoms 𝓤) (W : Given
   abbrev Post : Val → SProp 𝓤
   Post = walkOf 𝓤 H A f.ended stayed (f.clauses 𝓤 H A at-mem run) .post (((t-κ, tt), (t-q, tt), tt, x, at), tt)
 
-  -- the call of `crossing::renewed`: what it binds, what it asks, and what is known of its result
+  -- the call of `renewal::renewed`: what it binds, what it asks, and what is known of its result
   abbrev to-1 : Call1 𝓤 H A at-mem run .Ghost
   to-1 = ((tt, tt, tt, (t, (forwarding, tt)), ((m0 t) ∷ [], ((vint w32 forwarding) ∷ [], tt))), tt)
 
   goes-1 : Is T0.the-row t (m0 t ∷ []) → forwarding < 2 ^ 32 → ent 𝓤 (emp 𝓤) (Call1 𝓤 H A at-mem run .pre (to-1))
   goes-1 p0 p1 = qed W [] ∵ nothing ! $ owned ! u32 (Is u32) (uint-makes 𝓤 H A W w32) forwarding _ (refl, p1) $ fjoin ! $ owned ! T0.the-row (Is T0.the-row) (LL.makes T0.the-type T0′.the-plain 𝓤 H A) t _ p0 $ fjoin ! $ nothing ! $ join ! $ nothing ! $ move ! (1 ∷ 0 ∷ []) $ frame ! $ done !
 
-  said-1 : (r1 : Numbered) → ent 𝓤 (ensured 𝓤 H A g1.ended (g1.clauses 𝓤 H A at-mem run) tt (t, (forwarding, tt)) tt r1) (fact 𝓤 (r1 ≡ Spec.renewed t forwarding))
-  said-1 r1 = exE 𝓤 _ (λ ws. snd∗ 𝓤 (sem 𝓤 H A (lasts g1.ended tt (t, (forwarding, tt)) ws)) (fact 𝓤 (r1 ≡ Spec.renewed t forwarding)))
+  said-1 : (r1 : Numbered) → ent 𝓤 (ensured 𝓤 H A g1.ended (g1.clauses 𝓤 H A at-mem run) tt (t, (forwarding, tt)) tt r1) (fact 𝓤 (r1 ≡ renewed t forwarding))
+  said-1 r1 = exE 𝓤 _ (λ ws. snd∗ 𝓤 (sem 𝓤 H A (lasts g1.ended tt (t, (forwarding, tt)) ws)) (fact 𝓤 (r1 ≡ renewed t forwarding)))
 
-  exits : (r1 : Numbered) (e1 : r1 ≡ Spec.renewed t forwarding) → (r1 .number) < 2 ^ 32 → ent 𝓤 (⋆ 𝓤 H A (‵ (fobs t-γ (T0.the-row .coded .code (r1 .table))) ∷ ‵ (fbor t-κ (Body (mem T0.the-row) t-b t-o t-γ)) ∷ ‵ (flft t-κ t-q) ∷ [])) (Post (vint w32 (r1 .number)))
+  exits : (r1 : Numbered) (e1 : r1 ≡ renewed t forwarding) → (r1 .number) < 2 ^ 32 → ent 𝓤 (⋆ 𝓤 H A (‵ (fobs t-γ (T0.the-row .coded .code (r1 .table))) ∷ ‵ (fbor t-κ (Body (mem T0.the-row) t-b t-o t-γ)) ∷ ‵ (flft t-κ t-q) ∷ [])) (Post (vint w32 (r1 .number)))
   exits r1 e1 out-is =
       qed W (‵ (fobs t-γ (T0.the-row .coded .code (r1 .table))) ∷ ‵ (fbor t-κ (Body (mem T0.the-row) t-b t-o t-γ)) ∷ ‵ (flft t-κ t-q) ∷ []) ∵
       suffices ! _ (ends-at 𝓤 H A f.ended stayed (f.clauses 𝓤 H A at-mem run) W (((t-κ, tt), (t-q, tt), tt, x, at), tt) (vint w32 (r1 .number)) (r1 .number) ((r1 .table), (tt, tt)) (tt, (tt, tt))) $ says ! (ap (λ (s : Numbered). s .table) (e1), ap (λ (s : Numbered). s .number) (e1)) $
@@ -104,7 +104,7 @@ module _ {M : Type 1} (𝓤 : URA M) (H : Heap 𝓤) (A : Atoms 𝓤) (W : Given
   module _ (C : Calls 𝓤 H) (Λ : Loops 𝓤 H) (fm : FmC 𝓤 H (W .laws) C) (known1 : Triple 𝓤 (C #g1) (Call1 𝓤 H A at-mem run)) where
     walk : ent 𝓤 (onEntry 𝓤 H A f.signature (t-κ, tt) (t-q, tt) x at) (WpFn 𝓤 H C Λ code.function (vptr t-b t-o ∷ vint w32 forwarding ∷ []) Post)
     walk =
-        walks 𝓤 H A W table-str (ownOf T1.the-row) (T1.struct .name) (λ (d : Numbered). d .table) (λ (d : Numbered). d .number) (table-laws 𝓤 H A W) (numbered-laws 𝓤 H A W) (λ d p. LL.owed T1.the-type T1′.the-laws d _ p .0) (λ d p. LL.owed T1.the-type T1′.the-laws d _ p .1 .0 .1) t-κ t-q t-b t-o t-γ t forwarding forwarding-fits C Λ fm #g1 (Call1 𝓤 H A at-mem run .pre (to-1)) (λ r1. ensured 𝓤 H A g1.ended (g1.clauses 𝓤 H A at-mem run) tt (t, (forwarding, tt)) tt r1) (λ r1. r1 ≡ Spec.renewed t forwarding) goes-1 (known1 (to-1)) said-1 Post exits
+        walks 𝓤 H A W table-str (ownOf T1.the-row) (T1.struct .name) (λ (d : Numbered). d .table) (λ (d : Numbered). d .number) (table-laws 𝓤 H A W) (numbered-laws 𝓤 H A W) (λ d p. LL.owed T1.the-type T1′.the-laws d _ p .0) (λ d p. LL.owed T1.the-type T1′.the-laws d _ p .1 .0 .1) t-κ t-q t-b t-o t-γ t forwarding forwarding-fits C Λ fm #g1 (Call1 𝓤 H A at-mem run .pre (to-1)) (λ r1. ensured 𝓤 H A g1.ended (g1.clauses 𝓤 H A at-mem run) tt (t, (forwarding, tt)) tt r1) (λ r1. r1 ≡ renewed t forwarding) goes-1 (known1 (to-1)) said-1 Post exits
 
 module _ {M : Type 1} (𝓤 : URA M) (H : Heap 𝓤) (A : Atoms 𝓤) (W : Given 𝓤 H A) (mem : Memory → SProp 𝓤) (run : Routine → Fun 𝓤) where
   f-walks : (C : Calls 𝓤 H) (Λ : Loops 𝓤 H) → FmC 𝓤 H (W .laws) C → Triple 𝓤 (C #g1) (Call1 𝓤 H A mem run) → Walks 𝓤 H A f.ended stayed (WpFn 𝓤 H C Λ code.function) (f.clauses 𝓤 H A mem run)
@@ -124,4 +124,4 @@ relay-new-spec 𝓤 H 𝓜 𝓖 𝓡 =
     entered 𝓤 H (tripleOf 𝓤 H (𝓖 .A) f.signature (f.spec 𝓤 H (𝓖 .A) (𝓜 .mem) (𝓡 .run)))
     (tables 𝓤 H 𝓜 𝓡 code.env .C) (tables 𝓤 H 𝓜 𝓡 code.env .Λ) #f code.function (code.unfolded 𝓤 H 𝓜 𝓡)
     (f-meets 𝓤 H (𝓖 .A) (givenOf 𝓤 H 𝓜 𝓖) (𝓜 .mem) (𝓡 .run) (tablesOf 𝓤 H 𝓜 (tables 𝓤 H 𝓜 𝓡 code.env))
-    (cited 𝓤 H (Call1 𝓤 H (𝓖 .A) (𝓜 .mem) (𝓡 .run)) 𝓜 𝓡 code.env #g1 g1-def.routine code.calls-crossing·renewed (g1-thm.met 𝓤 H 𝓜 𝓖 𝓡)))
+    (cited 𝓤 H (Call1 𝓤 H (𝓖 .A) (𝓜 .mem) (𝓡 .run)) 𝓜 𝓡 code.env #g1 g1-def.routine code.calls-renewal·renewed (g1-thm.met 𝓤 H 𝓜 𝓖 𝓡)))

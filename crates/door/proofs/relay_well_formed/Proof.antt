@@ -36,10 +36,10 @@ use Rattle.table.specs.Table.{wfb}
 use Rattle.table.specs.declared.Table.{Table}
 use Rattle.table.proofs.Table as T0
 use Rattle.table.proofs.Table.Laws as T0′
-use Rattle.crossing.proofs.formed as g1
-use Rattle.crossing.proofs.formed.Symbol as g1-def
-use Rattle.crossing.proofs.formed.Symbol.{name as #g1}
-use Rattle.crossing.proofs.formed.Met as g1-thm
+use Rattle.renewal.proofs.formed as g1
+use Rattle.renewal.proofs.formed.Symbol as g1-def
+use Rattle.renewal.proofs.formed.Symbol.{name as #g1}
+use Rattle.renewal.proofs.formed.Met as g1-thm
 use Rattle.door.proofs.relay_well_formed.Key.{name as #f}
 use Rattle.door.proofs.relay_well_formed as f
 use Rattle.door.proofs.relay_well_formed.Statement as stated
@@ -68,7 +68,7 @@ module _ {M : Type 1} (𝓤 : URA M) (H : Heap 𝓤) (A : Atoms 𝓤) (W : Given
   abbrev Post : Val → SProp 𝓤
   Post = walkOf 𝓤 H A f.ended stayed (f.clauses 𝓤 H A at-mem run) .post (((t-κ, tt), (t-q, tt), tt, x, at), tt)
 
-  -- the call of `crossing::formed`: what it binds, what it asks, and what is known of its result
+  -- the call of `renewal::formed`: what it binds, what it asks, and what is known of its result
   abbrev to-1 : Call1 𝓤 H A at-mem run .Ghost
   to-1 = ((tt, tt, tt, (t, tt), ((m0 t) ∷ [], tt)), tt)
 
@@ -116,4 +116,4 @@ relay-well-formed-spec 𝓤 H 𝓜 𝓖 𝓡 =
     entered 𝓤 H (tripleOf 𝓤 H (𝓖 .A) f.signature (f.spec 𝓤 H (𝓖 .A) (𝓜 .mem) (𝓡 .run)))
     (tables 𝓤 H 𝓜 𝓡 code.env .C) (tables 𝓤 H 𝓜 𝓡 code.env .Λ) #f code.function (code.unfolded 𝓤 H 𝓜 𝓡)
     (f-meets 𝓤 H (𝓖 .A) (givenOf 𝓤 H 𝓜 𝓖) (𝓜 .mem) (𝓡 .run) (tablesOf 𝓤 H 𝓜 (tables 𝓤 H 𝓜 𝓡 code.env))
-    (cited 𝓤 H (Call1 𝓤 H (𝓖 .A) (𝓜 .mem) (𝓡 .run)) 𝓜 𝓡 code.env #g1 g1-def.routine code.calls-crossing·formed (g1-thm.met 𝓤 H 𝓜 𝓖 𝓡)))
+    (cited 𝓤 H (Call1 𝓤 H (𝓖 .A) (𝓜 .mem) (𝓡 .run)) 𝓜 𝓡 code.env #g1 g1-def.routine code.calls-renewal·formed (g1-thm.met 𝓤 H 𝓜 𝓖 𝓡)))

@@ -4,16 +4,16 @@ use Rattle.scenes.proofs.out.show_due.Statement.{statement}
 use Rattle.scenes.proofs.out.show_due.Tie as tie
 
 abbrev Inv-loop : tie.InvT-loop
-Inv-loop time timeout rows n k₀ k = (n ≤ 64) × (k ≤ 65)
+Inv-loop time timeout age rows n k₀ k = (n ≤ 64) × (k ≤ 65)
 
 abbrev μ-loop : tie.MeasureT-loop
-μ-loop time timeout rows n k₀ k = n - k
+μ-loop time timeout age rows n k₀ k = n - k
 
-slice-aggregate-write-due : tie.Need-slice-aggregate-write-due Inv-loop μ-loop
-slice-aggregate-write-due c = search kept
+slice-aggregate-resend-list : tie.Need-slice-aggregate-resend-list Inv-loop μ-loop
+slice-aggregate-resend-list c = search kept
 
-write-due-requires : tie.Need-write-due-requires Inv-loop μ-loop
-write-due-requires c κs = search kept
+resend-list-requires : tie.Need-resend-list-requires Inv-loop μ-loop
+resend-list-requires c κs = search kept
 
 loop-holds : tie.Need-loop-holds Inv-loop μ-loop
 loop-holds c = search kept
@@ -51,8 +51,8 @@ show-due-spec =
     (tie.spec
     Inv-loop
     μ-loop
-    slice-aggregate-write-due
-    write-due-requires
+    slice-aggregate-resend-list
+    resend-list-requires
     loop-holds
     add-loop
     add-number
