@@ -432,6 +432,19 @@ fn working(of: &Table, own: &mut Own) -> Vec<(&'static str, f64, f64)> {
     of_call("accept of one, not reliable", &mut |t| assert_eq!(lib::accept(t, 1, 7, &loose[..1]).code, 0));
     of_call("accept of eight, reliable", &mut |t| assert_eq!(lib::accept(t, 1, 7, &ordered).code, 0));
     of_call("accept of eight, not reliable", &mut |t| assert_eq!(lib::accept(t, 1, 7, &loose).code, 0));
+    // The other ways of a record move more of its channel: it waits in the buffer, it is a fragment, it has an ack.
+    let waits: Vec<Record> = (2..10).map(|number| record(1, 1, number)).collect();
+    let parts: Vec<Record> = (50..58).map(|n| Record { ranged: 1, first: 50, last: 57, ..record(1, 0, n) }).collect();
+    let run: Vec<Record> = (1..9).map(|n| Record { ranged: 1, first: 1, last: 8, ..record(1, 1, n) }).collect();
+    let acks: Vec<Record> = (1..9).map(|n| Record { ackcount: 1, acks: [n; lib::RECORD_ACKS], ..record(1, 1, n) }).collect();
+    of_call("accept of one that waits", &mut |t| assert_eq!(lib::accept(t, 1, 7, &waits[..1]).code, 0));
+    of_call("accept of one fragment", &mut |t| assert_eq!(lib::accept(t, 1, 7, &parts[..1]).code, 0));
+    of_call("accept of one reliable fragment", &mut |t| assert_eq!(lib::accept(t, 1, 7, &run[..1]).code, 0));
+    of_call("accept of one with an ack", &mut |t| assert_eq!(lib::accept(t, 1, 7, &acks[..1]).code, 0));
+    of_call("accept of eight that wait", &mut |t| assert_eq!(lib::accept(t, 1, 7, &waits).code, 0));
+    of_call("accept of eight fragments", &mut |t| assert_eq!(lib::accept(t, 1, 7, &parts).code, 0));
+    of_call("accept of eight reliable fragments", &mut |t| assert_eq!(lib::accept(t, 1, 7, &run).code, 0));
+    of_call("accept of eight with an ack", &mut |t| assert_eq!(lib::accept(t, 1, 7, &acks).code, 0));
     of_call("take_resends, all 352 due", &mut |t| assert_eq!(lib::take_resends(t, 9, 1, 99, &mut lent), Ok(352)));
     of_call("take_resends, all given up", &mut |t| assert_eq!(lib::take_resends(t, 9, 1, 1, &mut lent), Ok(0)));
     rows
@@ -506,7 +519,8 @@ fn main() -> ExitCode {
     for (name, ns, of_own) in &works {
         println!("  {name:<40} {ns:>8.0} ns {of_own:>8.2} of own");
     }
-    let worst = rows.iter().map(|r| r.of_own).chain(calls.iter().chain(&works).map(|c| c.2)).fold(0.0, f64::max);
-    println!("a checked call costs {worst:.2} times that at most; the goal is 3");
+    let histories = rows.iter().map(|r| r.of_own).fold(0.0, f64::max);
+    let worst = calls.iter().chain(&works).map(|c| c.2).fold(histories, f64::max);
+    println!("a checked call of these histories costs {histories:.2} times that at most, where the goal is 3; of all calls above {worst:.2}");
     ExitCode::SUCCESS
 }
