@@ -521,6 +521,6 @@ fn main() -> ExitCode {
     }
     let histories = rows.iter().map(|r| r.of_own).fold(0.0, f64::max);
     let worst = calls.iter().chain(&works).map(|c| c.2).fold(histories, f64::max);
-    println!("a checked call of these histories costs {histories:.2} times that at most, where the goal is 3; of all calls above {worst:.2}");
+    println!("a checked call costs {histories:.2} times that at most in these histories, and {worst:.2} by itself; the goal is 3");
     ExitCode::SUCCESS
 }
