@@ -1,4 +1,6 @@
 // The ack queue (Rust: in_reliable_packets): numbers received and not yet acknowledged, by value. An array and a count, zeros past it.
+#![tactic(auto)]
+
 ghost use Rattle.std.specs.Prelude.{◌≡◌, [], ◌∷◌, ◌++◌, cond, ◌≤◌, ◌<◌, take};
 ghost use Rattle.lists.specs.Pad.{remove_at};
 ghost use Rattle.lists.specs.Find as Find;
@@ -10,7 +12,7 @@ use seq::{Order, Seq};
 
 // Rust: in_reliable_packets of OffChannelData, the numbers to acknowledge.
 #[repr(C)]
-#[derive(Drop)]
+#[derive(Clone, Copy)]
 pub struct AckQueue {
     pub len: u32,
     pub numbers: [u32; 64],
@@ -18,7 +20,7 @@ pub struct AckQueue {
 
 // What `take_written` answers: ok is 1 and the queue is without the names, or ok is 0 and the queue is as it was.
 #[repr(C)]
-#[derive(Drop)]
+#[derive(Clone, Copy)]
 pub struct Taken {
     pub ok: u32,
     pub queue: AckQueue,

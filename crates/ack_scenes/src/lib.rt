@@ -1,4 +1,6 @@
 // Scenes of the ack queue, for the program `scenes`: numbers received and not yet acknowledged.
+#![tactic(auto)]
+
 ghost use Rattle.ack_queue.specs.Queue.{Wf};
 
 use ack_queue::AckQueue;

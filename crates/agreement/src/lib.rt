@@ -1,4 +1,6 @@
 // Theorems over the model alone stand in proofs/; this crate has no code of its own.
+#![tactic(auto)]
+
 ghost use Rattle.std.specs.Prelude.{◌≡◌};
 
 pub fn zero() -> u32

@@ -1,4 +1,6 @@
 // What an `in` and a `pop` of the driver answer (01, "The driver"), and the state that they leave.
+#![tactic(auto)]
+
 ghost use Rattle.std.specs.Prelude.{◌+◌, ◌≤◌, length};
 ghost use Rattle.answers.specs.Answers as Answers;
 
@@ -6,7 +8,7 @@ use held::State;
 use packet::{Key, Record};
 
 // After a line: the state, and the place in the buffer after its answer.
-#[derive(Drop)]
+#[derive(Clone, Copy)]
 pub struct Stepped {
     pub state: State,
     pub next: usize,

@@ -1,6 +1,8 @@
 // Short scenes of reliable packets on an on-channel: the expected number, the buffer, the contiguous queue, and the bundles made. Each
 // starts from a new channel and stands at an edge of 01's rules. A scene writes one line: what was done, and after the colon what came
 // of it.
+#![tactic(auto)]
+
 ghost use Rattle.arrival_scenes.specs.Kept.{ArrivalsKept};
 
 use bundles::Bundles;

@@ -1,4 +1,6 @@
 // A lent list of records, of any length, as the batch that a delivery by value takes.
+#![tactic(auto)]
+
 ghost use Rattle.std.specs.Prelude.{◌≡◌};
 ghost use Rattle.batches.specs.Batches as Spec;
 

@@ -1,4 +1,6 @@
 // The bundles of a channel that are made and not yet handed out (the Rust's `in_bundles`), by value.
+#![tactic(auto)]
+
 ghost use Rattle.std.specs.Prelude.{◌≡◌, true, [], ◌∷◌, ◌++◌, ◌≤◌, length, take, drop};
 ghost use Rattle.lists.specs.Pad.{pad, all_b};
 ghost use Rattle.lists.specs.Find.{has, written, sum};
@@ -7,7 +9,7 @@ ghost use Rattle.bundles.specs.Bundles as Spec;
 
 // 16 bundles of 64 handles in all: how many there are, each one's length, and the handles one bundle after the other (Rust: in_bundles).
 #[repr(C)]
-#[derive(Drop)]
+#[derive(Clone, Copy)]
 pub struct Bundles {
     pub len: u32,
     pub total: u32,

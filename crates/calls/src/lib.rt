@@ -1,5 +1,7 @@
 // What the public calls take and answer, as structs, and the place of a channel; specs/ says what each call answers and leaves, for every
 // table and input.
+#![tactic(auto)]
+
 ghost use Rattle.std.specs.Prelude.{◌≡◌};
 ghost use Rattle.packet.specs.Data.{key_index};
 ghost use Rattle.table.specs.Table.{abs, Wf};
@@ -10,7 +12,7 @@ use table::Table;
 
 // A delivery: the first `count` of the records, piggybacks before their carrier.
 #[repr(C)]
-#[derive(Drop)]
+#[derive(Clone, Copy)]
 pub struct Batch {
     pub count: u32,
     pub records: [Record; 8],
@@ -18,7 +20,7 @@ pub struct Batch {
 
 // The handles of a send.
 #[repr(C)]
-#[derive(Drop)]
+#[derive(Clone, Copy)]
 pub struct Handles {
     pub count: u32,
     pub handles: [u32; 16],
@@ -26,14 +28,14 @@ pub struct Handles {
 
 // The acks that were written.
 #[repr(C)]
-#[derive(Drop)]
+#[derive(Clone, Copy)]
 pub struct Names {
     pub count: u32,
     pub numbers: [u32; 64],
 }
 
 // The table after a call, with the refusal's number or 0, and the values of the answer: zero where it has none.
-#[derive(Drop)]
+#[derive(Clone, Copy)]
 pub struct Delivered {
     pub table: Table,
     pub code: u32,
@@ -41,7 +43,7 @@ pub struct Delivered {
     pub view: View,
 }
 
-#[derive(Drop)]
+#[derive(Clone, Copy)]
 pub struct Found {
     pub table: Table,
     pub code: u32,
@@ -49,7 +51,7 @@ pub struct Found {
 }
 
 // `some` is 1 where a bundle was handed out, and `len` its length.
-#[derive(Drop)]
+#[derive(Clone, Copy)]
 pub struct Popped {
     pub table: Table,
     pub code: u32,
@@ -57,33 +59,33 @@ pub struct Popped {
     pub len: u32,
 }
 
-#[derive(Drop)]
+#[derive(Clone, Copy)]
 pub struct Sent {
     pub table: Table,
     pub code: u32,
     pub prepared: Prepared,
 }
 
-#[derive(Drop)]
+#[derive(Clone, Copy)]
 pub struct Resent {
     pub table: Table,
     pub code: u32,
     pub rows: u32,
 }
 
-#[derive(Drop)]
+#[derive(Clone, Copy)]
 pub struct Done {
     pub table: Table,
     pub code: u32,
 }
 
-#[derive(Drop)]
+#[derive(Clone, Copy)]
 pub struct Held {
     pub code: u32,
     pub held: u32,
 }
 
-#[derive(Drop)]
+#[derive(Clone, Copy)]
 pub struct Prefix {
     pub code: u32,
     pub prefix: u32,

@@ -1,4 +1,6 @@
 // A channel of either kind, by value: its key and its lists.
+#![tactic(auto)]
+
 ghost use Rattle.std.specs.Prelude.{◌≡◌, cond, not, ◌&&◌, eqb};
 ghost use Rattle.seq.specs.Num as Num;
 ghost use Rattle.model.specs.State as model;
@@ -14,7 +16,7 @@ use waiting::Waiting;
 
 // Rust: OffChannel, with its OffChannelData.
 #[repr(C)]
-#[derive(Drop)]
+#[derive(Clone, Copy)]
 pub struct OffChannel {
     pub address: u32,
     pub out: OutList,
@@ -26,7 +28,7 @@ pub struct OffChannel {
 // Rust: OnChannel, with its OffChannelData and OnChannelData; expected is in_reliable_expected_seq, source is seq_alloc. Without an index,
 // index and version are 0.
 #[repr(C)]
-#[derive(Drop)]
+#[derive(Clone, Copy)]
 pub struct OnChannel {
     pub address: u32,
     pub index: u32,
@@ -42,13 +44,13 @@ pub struct OnChannel {
 }
 
 // A channel after a record, and the refusal's number or 0.
-#[derive(Drop)]
+#[derive(Clone, Copy)]
 pub struct OffStep {
     pub code: u32,
     pub channel: OffChannel,
 }
 
-#[derive(Drop)]
+#[derive(Clone, Copy)]
 pub struct OnStep {
     pub code: u32,
     pub channel: OnChannel,

@@ -1,4 +1,6 @@
 // A resend of an array of channels: their rows in the lent list, and the channels after it.
+#![tactic(auto)]
+
 ghost use Rattle.std.specs.Prelude.{◌≡◌, ◌+◌, ◌≤◌, length};
 ghost use Rattle.lists.specs.Find.{written_at};
 ghost use Rattle.model.specs.Calls.{flat};

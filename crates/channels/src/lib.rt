@@ -1,4 +1,6 @@
 // Find or create a channel (Rust: channel, off_channel), and the answer from a channel's numbers.
+#![tactic(auto)]
+
 ghost use Rattle.std.specs.Prelude.{◌≡◌, cond, ◌+◌, ◌≤◌, eqb, ltb};
 ghost use Rattle.calls.specs.Answers.{no_view};
 ghost use Rattle.calls.specs.Calls.{channel_of};
@@ -10,7 +12,7 @@ use packet::{Key, View};
 use table::Table;
 
 // A refusal's number or 0, and the place of the channel where it is 0.
-#[derive(Drop)]
+#[derive(Clone, Copy)]
 struct Place {
     code: u32,
     at: usize,

@@ -1,4 +1,6 @@
 // The contiguous queue of an on-channel while a packet arrives, in an array with room for all that may come to stand in it.
+#![tactic(auto)]
+
 ghost use Rattle.std.specs.Prelude.{◌≡◌, [], ◌∷◌, ◌++◌, ◌+◌, ◌≤◌, ◌<◌, length, take, drop};
 ghost use Rattle.lists.specs.Pad.{pad};
 ghost use Rattle.model.specs.Group.{handles};
@@ -9,7 +11,7 @@ use packet::Packet;
 use waiting::Waiting;
 
 // The 32 that waited, the one that arrived, and the 32 that were buffered.
-#[derive(Drop)]
+#[derive(Clone, Copy)]
 pub struct Work {
     pub len: u32,
     pub packets: [Packet; 65],

@@ -1,5 +1,7 @@
 // What crosses to the host as numbers: a call's answer as one number.
 // `door` calls these over what the host lends.
+#![tactic(auto)]
+
 ghost use Rattle.std.specs.Prelude.{◌≡◌, ◌≤◌};
 ghost use Rattle.calls.specs.Calls.{holds_of, last_prefix};
 ghost use Rattle.crossing.specs.Crossing as Spec;

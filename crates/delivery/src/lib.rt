@@ -1,4 +1,6 @@
 // The parts of a delivery that are the table's: where a record's channel stands, and what is stored beside it.
+#![tactic(auto)]
+
 ghost use Rattle.std.specs.Prelude.{◌≡◌, ◌≤◌, ◌<◌};
 ghost use Rattle.delivery.specs.Delivery as Spec;
 
@@ -7,7 +9,7 @@ use packet::Record;
 use table::{Keys, OnKey, Table};
 
 // What of the table the records change beside its channels, and the channels' keys.
-#[derive(Drop)]
+#[derive(Clone, Copy)]
 pub struct Beside {
     pub offcount: u32,
     pub oncount: u32,
@@ -16,7 +18,7 @@ pub struct Beside {
 }
 
 // What a record aims at: refusal 2 or 4, or 0 with the place of its channel and whether that is new; then its number on that channel.
-#[derive(Drop)]
+#[derive(Clone, Copy)]
 pub struct Aim {
     pub code: u32,
     pub at: usize,

@@ -1,5 +1,7 @@
 // The calls for a Rust host: each once more over what the host lends, for every table and input. References and numbers alone cross, and
 // nothing is asked of the host but what Rust asks of a reference.
+#![tactic(auto)]
+
 ghost use Rattle.std.specs.Prelude.{◌≡◌, cond};
 ghost use Rattle.table.specs.Table.{wfb};
 ghost use Rattle.calls.specs.Calls.{accepted_out, channel_of, next_of, next_lent, prepared_by, wrote_acks, resends_of, resends_lent, holds_of, last_prefix, reset_of, transfer_of};

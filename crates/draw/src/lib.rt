@@ -1,5 +1,7 @@
 // What each step of the program `mixed_history` is: every choice is drawn from the step's number alone, so that others can play the same
 // history.
+#![tactic(auto)]
+
 use calls::{Batch, Handles, Names};
 use packet::{Key, Record};
 

@@ -1,4 +1,6 @@
 // The driver (01, "The driver"): a script on standard input, its answers on standard output.
+#![tactic(auto)]
+
 ghost use Rattle.std.specs.Prelude.{◌≤◌, length};
 
 use libc::{STDIN_FILENO, STDOUT_FILENO};

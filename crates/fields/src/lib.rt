@@ -1,5 +1,7 @@
 // A record's fields (01, "The driver"), in their order: each reader is given the rest of the line, and after the word that it matched
 // hands the part of the slice that is left on to the next reader.
+#![tactic(auto)]
+
 ghost use Rattle.std.specs.Prelude.{◌≡◌};
 ghost use Rattle.packet.specs.Given as Given;
 ghost use Rattle.fields.specs.Readers as Readers;
@@ -8,7 +10,7 @@ use packet::Record;
 use words::{Field, Pair};
 
 // A record from a line's fields; where they could not be read it is all zero.
-#[derive(Drop)]
+#[derive(Clone, Copy)]
 pub struct Fields {
     pub read: bool,
     pub rec: Record,

@@ -1,4 +1,6 @@
 // A packet forwarded out (Rust: accept_out).
+#![tactic(auto)]
+
 ghost use Rattle.std.specs.Prelude.{◌≡◌, cond, ltb};
 ghost use Rattle.packet.specs.Data.{index_of, version_of};
 ghost use Rattle.channel.specs.Channel.{keyed_on, keyed_off};
@@ -11,7 +13,7 @@ use packet::{Record, View};
 use table::Table;
 
 // A refusal's number or 0, the place of the channel where it is 0, and the time that the call leaves.
-#[derive(Drop)]
+#[derive(Clone, Copy)]
 struct Timed {
     code: u32,
     at: usize,

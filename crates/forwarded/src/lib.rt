@@ -1,4 +1,6 @@
 // A packet forwarded out on its channel (Rust: accept_out), by value: the refusal's number or 0, and the channel after it.
+#![tactic(auto)]
+
 ghost use Rattle.std.specs.Prelude.{◌≡◌, true, leb, length};
 ghost use Rattle.packet.specs.Data.{is_set, well_made};
 ghost use Rattle.model.specs.Acks.{forwarded_entry};

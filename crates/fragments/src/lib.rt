@@ -1,4 +1,6 @@
 // The fragments of a channel that wait for their bundle (the Rust's `Fragments` and `in_fragments`), by value.
+#![tactic(auto)]
+
 ghost use Rattle.std.specs.Prelude.{◌≡◌, true, [], ◌∷◌, ◌++◌, ◌≤◌, ◌<◌, set};
 ghost use Rattle.lists.specs.Pad.{pad, remove_at};
 ghost use Rattle.lists.specs.Find.{has, position};
@@ -9,7 +11,7 @@ ghost use Rattle.fragments.specs.Groups as Spec;
 // The fragments of one range, by its first number. A filled place has mark 1 and its handle, an empty one 0 and 0; len places are in use.
 // Rust: Fragments; updated is last_update, count is seq_count, and a mark with its handle is an element of fragments.
 #[repr(C)]
-#[derive(Drop)]
+#[derive(Clone, Copy)]
 pub struct Fragments {
     pub updated: u64,
     pub first: u32,
@@ -21,14 +23,14 @@ pub struct Fragments {
 
 // Up to 4 groups, in order of creation; what is past them is zero (Rust: in_fragments).
 #[repr(C)]
-#[derive(Drop)]
+#[derive(Clone, Copy)]
 pub struct Groups {
     pub len: u32,
     pub groups: [Fragments; 4],
 }
 
 // Where the group of a first number stands.
-#[derive(Drop)]
+#[derive(Clone, Copy)]
 pub enum Found {
     At(usize),
     Nothing,

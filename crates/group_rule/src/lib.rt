@@ -1,4 +1,6 @@
 // The rule of a packet off the reliable path (the Rust's `add_in_packet`): whether it is refused, and what it leaves of groups and bundles.
+#![tactic(auto)]
+
 ghost use Rattle.std.specs.Prelude.{◌≡◌, ◌&&◌, suc, leb};
 ghost use Rattle.std.proofs.Math.Option.{none, some};
 ghost use Rattle.lists.specs.Find.{position};
@@ -13,7 +15,7 @@ use packet::Packet;
 use seq::Seq;
 
 // What the rule answers: 0, or refusal 10 or 11 with the lists as they were.
-#[derive(Drop)]
+#[derive(Clone, Copy)]
 pub struct Added {
     pub code: u32,
     pub groups: Groups,

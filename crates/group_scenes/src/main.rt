@@ -1,5 +1,7 @@
 // Short scenes of packets off the reliable path: the groups that wait, and the bundles made. Each starts from a new channel and stands
 // at an edge of 01's rules. A scene writes one line: what was done, and after the colon what came of it.
+#![tactic(auto)]
+
 ghost use Rattle.group_scenes.specs.Kept.{GroupsKept};
 
 use bundles::Bundles;

@@ -1,4 +1,6 @@
 // The test whether any value is a channel's groups in their form. Arrays are tested in loops of fixed turns, with no way out.
+#![tactic(auto)]
+
 ghost use Rattle.std.specs.Prelude.{◌≡◌, ◌&&◌, ◌≤◌, take, drop};
 ghost use Rattle.lists.specs.Pad.{all_b};
 ghost use Rattle.bundles.specs.Bundles.{is_zero};

@@ -1,4 +1,6 @@
 // Steps of the program `mixed_history` with a lent list, long or short: a bundle handed out, and resends.
+#![tactic(auto)]
+
 use table::Table;
 
 // The first n of the lent list.

@@ -1,4 +1,6 @@
 // The call that hands out a bundle.
+#![tactic(auto)]
+
 ghost use Rattle.std.specs.Prelude.{◌≡◌};
 ghost use Rattle.calls.specs.Calls.{next_of, next_lent};
 ghost use Rattle.handout.specs.Handout.{Spotted};
@@ -9,7 +11,7 @@ use packet::Key;
 use table::Table;
 
 // The refusal's number, or 0 with the place of the channel.
-#[derive(Drop)]
+#[derive(Clone, Copy)]
 pub struct Spot {
     pub code: u32,
     pub at: usize,

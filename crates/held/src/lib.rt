@@ -1,4 +1,6 @@
 // The driver's state (01, "The driver"): the table, and the records that are held for the next `in`.
+#![tactic(auto)]
+
 ghost use Rattle.std.specs.Prelude.{◌≡◌};
 ghost use Rattle.held.specs.Held as Held;
 
@@ -7,7 +9,7 @@ use packet::Record;
 use table::Table;
 
 // What a line finds and leaves: the table, and the records that the next `in` delivers before its own.
-#[derive(Drop)]
+#[derive(Clone, Copy)]
 pub struct State {
     pub table: Table,
     pub held: Batch,

@@ -1,4 +1,6 @@
 // The call that tells whether a handle is held: "in an out list, the buffer, the contiguous queue, a group, or a bundle not yet handed out".
+#![tactic(auto)]
+
 ghost use Rattle.std.specs.Prelude.{◌≡◌, map, take};
 ghost use Rattle.lists.specs.Find.{has};
 ghost use Rattle.model.specs.Rust.{holds_off, holds_on};

@@ -1,5 +1,7 @@
 // The host's calls with a list, lent or delivered, by value of the table: a bundle and resends into a lent list, with the answer as one
 // number, and a delivery.
+#![tactic(auto)]
+
 ghost use Rattle.std.specs.Prelude.{◌≡◌};
 ghost use Rattle.calls.specs.Calls.{accepted, next_lent, resends_lent};
 ghost use Rattle.lending.specs.Lending as Spec;
@@ -11,13 +13,13 @@ use table::Table;
 
 // A delivery's answer: the count of records not refused, and the last one's channel.
 #[repr(C)]
-#[derive(Drop)]
+#[derive(Clone, Copy)]
 pub struct Arrival {
     pub count: u32,
     pub view: View,
 }
 
-#[derive(Drop)]
+#[derive(Clone, Copy)]
 pub struct Arrived {
     pub table: Table,
     pub code: u32,

@@ -1,4 +1,6 @@
 // The number source for a Rust host, which lends it: one u32, any u32. Thin over the functions on values of `seq`.
+#![tactic(auto)]
+
 ghost use Rattle.std.specs.Prelude.{◌≡◌};
 ghost use Rattle.seq.specs.Num as Num;
 ghost use Rattle.lent.specs.Lent as Spec;
@@ -6,13 +8,13 @@ ghost use Rattle.lent.specs.Lent as Spec;
 use seq::Seq;
 
 #[repr(C)]
-#[derive(Drop)]
+#[derive(Clone, Copy)]
 pub struct SeqAlloc {
     pub next: u32,
 }
 
 // The source after an allocation, and the first of the numbers handed out.
-#[derive(Drop)]
+#[derive(Clone, Copy)]
 pub struct Moved {
     pub source: SeqAlloc,
     pub first: u32,

@@ -1,4 +1,6 @@
 // One line of the driver (01, "The driver"): what it answers, and the state that it leaves.
+#![tactic(auto)]
+
 ghost use Rattle.std.specs.Prelude.{◌+◌, ◌≤◌, length};
 ghost use Rattle.answers.specs.Answers as Answers;
 ghost use Rattle.lines.specs.Lines as Lines;

@@ -1,4 +1,6 @@
 // What a resend lists of one out list, and the list after it.
+#![tactic(auto)]
+
 ghost use Rattle.std.specs.Prelude.{◌≡◌, ◌+◌, ◌≤◌, length};
 ghost use Rattle.lists.specs.Find.{written_at};
 ghost use Rattle.model.specs.Calls.{flat};
@@ -9,7 +11,7 @@ use out_list::OutList;
 use packet::OutEntry;
 
 // A channel's out list once its rows are written, and the place after them.
-#[derive(Drop)]
+#[derive(Clone, Copy)]
 pub struct Listed {
     pub out: OutList,
     pub next: usize,

@@ -1,4 +1,6 @@
 // One number for a refusal or a value, as it crosses to the host.
+#![tactic(auto)]
+
 ghost use Rattle.std.specs.Prelude.{◌≡◌, cond, ◌≤◌, ◌+◌, eqb};
 ghost use Rattle.marks.specs.Marks as Spec;
 

@@ -1,5 +1,7 @@
 // A long history over every call from a new table that forwards: each step writes a line with the answer and the sum of the table after
 // it. At the end the table is made malformed, and every call is tried on it.
+#![tactic(auto)]
+
 mod play;
 
 use table::Table;

@@ -1,5 +1,7 @@
 // What the sequence numbers do at their edges: the rows of 01's "Proved table" that speak of
 // numbers, computed by the crate `seq` and written one to a line.
+#![tactic(auto)]
+
 use libc::STDOUT_FILENO;
 use seq::{Order, Seq, SeqAlloc};
 

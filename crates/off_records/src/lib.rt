@@ -1,4 +1,6 @@
 // One record on its off-channel (Rust: accept_inner), by value: the refusal's number or 0, and the channel after it.
+#![tactic(auto)]
+
 ghost use Rattle.std.specs.Prelude.{◌≡◌, true, false};
 ghost use Rattle.packet.specs.Data.{is_set, well_made, packet};
 ghost use Rattle.model.specs.Record.{off_record, loose_off};

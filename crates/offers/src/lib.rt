@@ -1,4 +1,6 @@
 // What next bundle makes of the bundles that wait in a channel.
+#![tactic(auto)]
+
 ghost use Rattle.std.specs.Prelude.{◌≡◌, eqb, length};
 ghost use Rattle.model.specs.Calls as model;
 ghost use Rattle.bundles.specs.Bundles as waiting;
@@ -7,7 +9,7 @@ ghost use Rattle.offers.specs.Offers.{offered, offer_of, left_of};
 use bundles::Bundles;
 
 // What comes of a channel's bundles: the refusal's number or 0, whether one is handed out, and its length.
-#[derive(Drop)]
+#[derive(Clone, Copy)]
 pub struct Offer {
     pub code: u32,
     pub some: u32,

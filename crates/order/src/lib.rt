@@ -1,4 +1,6 @@
 // Demand 3 stands in specs/ and proofs/; this crate has no code of its own.
+#![tactic(auto)]
+
 ghost use Rattle.std.specs.Prelude.{◌≡◌};
 
 pub fn zero() -> u32

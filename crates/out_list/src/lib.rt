@@ -1,4 +1,6 @@
 // The out list (Rust: out_reliable_packets): reliable packets sent and not yet acknowledged, by value. An array and a count, zeros past it.
+#![tactic(auto)]
+
 ghost use Rattle.std.specs.Prelude.{◌≡◌, [], ◌∷◌, ◌++◌, ◌≤◌, ◌<◌, leb, length, take, drop};
 ghost use Rattle.lists.specs.Pad.{remove_at};
 ghost use Rattle.lists.specs.Find.{slot_of, has};
@@ -12,7 +14,7 @@ use seq::{Order, Seq};
 
 // Rust: out_reliable_packets.
 #[repr(C)]
-#[derive(Drop)]
+#[derive(Clone, Copy)]
 pub struct OutList {
     pub len: u32,
     pub entries: [OutEntry; 32],

@@ -1,4 +1,6 @@
 // What a resend asks of an out list's entries, which are given up or due, and of the whole list: how many rows it has, and whether it stays.
+#![tactic(auto)]
+
 ghost use Rattle.std.specs.Prelude.{◌≡◌, true, not, cond, ◌&&◌, ◌-◌, length};
 ghost use Rattle.lists.specs.Pad.{all_b};
 ghost use Rattle.lists.specs.Find.{keep_by};

@@ -1,5 +1,7 @@
 // The test whether any value is an out list in its form. The fields of one width are tested in a loop of their own, of fixed turns and with
 // no way out.
+#![tactic(auto)]
+
 ghost use Rattle.std.specs.Prelude.{◌≡◌, cond, ◌&&◌, drop};
 ghost use Rattle.lists.specs.Pad.{all_b};
 ghost use Rattle.out_list.specs.Out.{abs};

@@ -1,5 +1,7 @@
 // The reorder rule: a reliable packet takes its place in the contiguous queue or in the buffer
 // (Rust: OnChannelData::add_in_reliable_packet up to the grouping).
+#![tactic(auto)]
+
 ghost use Rattle.std.specs.Prelude.{◌≡◌, [], ◌∷◌, ◌++◌};
 ghost use Rattle.seq.specs.Num.{add};
 ghost use Rattle.model.specs.Reorder.{move};
@@ -11,14 +13,14 @@ use packet::{Packet, Place};
 use seq::{Order, Seq};
 use waiting::Waiting;
 
-#[derive(Drop)]
+#[derive(Clone, Copy)]
 pub struct Inserted {
     pub fits: u32,
     pub buffer: Waiting,
 }
 
 // What the reorder rule ends in, where fits is 1.
-#[derive(Drop)]
+#[derive(Clone, Copy)]
 pub struct Placed {
     pub fits: u32,
     pub expected: u32,

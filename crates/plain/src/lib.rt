@@ -1,5 +1,7 @@
 // A plain record: no acks and no range, on a channel that is there, and if it is reliable on-channel then the next one, where nothing waits.
 // It changes numbers, the ack queue and the bundles alone, so that no other list of the channel is moved.
+#![tactic(auto)]
+
 ghost use Rattle.std.specs.Prelude.{◌≡◌, true, cond, ◌<◌};
 ghost use Rattle.seq.specs.Num as Num;
 ghost use Rattle.packet.specs.Data.{is_set};

@@ -1,4 +1,6 @@
 // The calls that read or set the prefixes.
+#![tactic(auto)]
+
 ghost use Rattle.std.specs.Prelude.{◌≡◌};
 ghost use Rattle.calls.specs.Calls.{last_prefix, reset_of, transfer_of};
 

@@ -1,4 +1,6 @@
 // What the scenes write on standard output: text, numbers, answers and bundles.
+#![tactic(auto)]
+
 ghost use Rattle.bundles.specs.Bundles as Made;
 
 use bundles::Bundles;

@@ -1,4 +1,6 @@
 // Whether a resend has anything to do, and how many rows it has.
+#![tactic(auto)]
+
 ghost use Rattle.std.specs.Prelude.{◌≡◌, ◌&&◌, ◌≤◌, length};
 ghost use Rattle.lists.specs.Pad.{all_b};
 ghost use Rattle.table.specs.Forms.{OffsWf, OnsWf};

@@ -1,5 +1,7 @@
 // The driver's lines (01, "The driver"): which command a line is. Each reader is given the rest of the line, and after the word that it
 // matched hands the part of the slice that is left on to the next reader.
+#![tactic(auto)]
+
 ghost use Rattle.std.specs.Prelude.{◌≡◌};
 ghost use Rattle.reading.specs.Grammar as Grammar;
 
@@ -10,7 +12,7 @@ use words::{Field, Number};
 const MOST64: u64 = 0xFFFF_FFFF_FFFF_FFFF;
 
 // A `bad` line whose first word is exactly `in` uses the held records up, and is told apart.
-#[derive(Drop)]
+#[derive(Clone, Copy)]
 pub enum Kind {
     In,
     Pig,
@@ -20,7 +22,7 @@ pub enum Kind {
 }
 
 // One line as a command. `in` has a time, an address (in the key) and a record, `pig` a record, `pop` a key; the rest is zero.
-#[derive(Drop)]
+#[derive(Clone, Copy)]
 pub struct Line {
     pub kind: Kind,
     pub time: u64,

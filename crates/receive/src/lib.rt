@@ -1,4 +1,6 @@
 // A delivery (Rust: Protocol::accept): refused as a whole by 1, 2 or 3, or each record by itself, in order.
+#![tactic(auto)]
+
 ghost use Rattle.std.specs.Prelude.{◌≡◌};
 ghost use Rattle.calls.specs.Calls.{accepted};
 ghost use Rattle.receive.specs.Receive as Spec;

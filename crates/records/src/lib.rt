@@ -1,4 +1,6 @@
 // One record on its on-channel (Rust: accept_inner), by value: the refusal's number or 0, and the channel after it.
+#![tactic(auto)]
+
 ghost use Rattle.std.specs.Prelude.{◌≡◌, true, false, not, ◌&&◌, ◌<◌, eqb};
 ghost use Rattle.seq.specs.Num as Num;
 ghost use Rattle.packet.specs.Data.{is_set, well_made, packet};

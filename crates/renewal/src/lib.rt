@@ -1,4 +1,6 @@
 // A new table by its flag, and whether a table is well formed, as numbers that cross to the host.
+#![tactic(auto)]
+
 ghost use Rattle.std.specs.Prelude.{◌≡◌, cond};
 ghost use Rattle.table.specs.Table.{wfb};
 ghost use Rattle.renewal.specs.Renewal as Spec;
@@ -6,7 +8,7 @@ ghost use Rattle.renewal.specs.Renewal as Spec;
 use table::Table;
 
 // The table after a call, with the call's answer as one number.
-#[derive(Drop)]
+#[derive(Clone, Copy)]
 pub struct Numbered {
     pub table: Table,
     pub number: u32,

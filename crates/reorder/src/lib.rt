@@ -1,5 +1,7 @@
 // A reliable packet's arrival on an on-channel: the reorder rule, and then bundles from the contiguous queue
 // (Rust: OnChannelData::add_in_reliable_packet, then pop_in_reliable_bundle until it answers none).
+#![tactic(auto)]
+
 ghost use Rattle.std.specs.Prelude.{◌≡◌, true, [], ◌∷◌, ◌++◌, ◌+◌, ◌≤◌, length, take, drop};
 ghost use Rattle.model.specs.Group.{handles};
 ghost use Rattle.bundles.specs.Bundles as Made;
@@ -15,7 +17,7 @@ use taking::Pop;
 use waiting::Waiting;
 
 // What the grouping leaves, where fits is 1: the queue, and all bundles that wait.
-#[derive(Drop)]
+#[derive(Clone, Copy)]
 pub struct Grouping {
     pub fits: u32,
     pub queue: Waiting,
@@ -23,7 +25,7 @@ pub struct Grouping {
 }
 
 // The channel's reliable side after the packet; where fits is 0, as it was.
-#[derive(Drop)]
+#[derive(Clone, Copy)]
 pub struct Reordered {
     pub fits: u32,
     pub expected: u32,

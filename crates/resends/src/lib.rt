@@ -1,4 +1,6 @@
 // The call that lists the packets to send again (Rust: take_resends).
+#![tactic(auto)]
+
 ghost use Rattle.std.specs.Prelude.{◌≡◌, true, ◌≤◌};
 ghost use Rattle.table.specs.Table.{wfb};
 ghost use Rattle.calls.specs.Calls.{resends_of, resends_lent};

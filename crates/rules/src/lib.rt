@@ -1,4 +1,6 @@
 // The rules of a record that both kinds of channel share: its acks, and the number of rule 6.
+#![tactic(auto)]
+
 ghost use Rattle.std.specs.Prelude.{◌≡◌, true};
 ghost use Rattle.packet.specs.Data.{well_made, packet};
 ghost use Rattle.out_list.specs.Out as Out;

@@ -1,5 +1,7 @@
 // Short scenes over a channel's out list and ack queue, each from a new list and each at an edge of 01's rules. A scene writes one
 // line: what was done, and after the colon what came of it.
+#![tactic(auto)]
+
 mod out;
 
 fn main() {

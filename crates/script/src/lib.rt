@@ -1,4 +1,6 @@
 // A whole input of the driver (01, "The driver"), cut into lines, and the answers to them in order.
+#![tactic(auto)]
+
 ghost use Rattle.std.specs.Prelude.{◌≡◌, ◌+◌, ◌≤◌, ◌<◌, length, drop};
 ghost use Rattle.script.specs.Input as Input;
 
@@ -8,7 +10,7 @@ use held::State;
 const ROOM: usize = 800;
 
 // How far an input is answered: the state, the place in the input, and how much of the buffer the answers take.
-#[derive(Drop)]
+#[derive(Clone, Copy)]
 pub struct Ran {
     pub state: State,
     pub at: usize,

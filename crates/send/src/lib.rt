@@ -1,4 +1,6 @@
 // The call of a sender: send (Rust: the state half of Channel::prepare).
+#![tactic(auto)]
+
 ghost use Rattle.std.specs.Prelude.{◌≡◌};
 ghost use Rattle.model.specs.Port.{asked};
 ghost use Rattle.calls.specs.Calls.{prepared_by};

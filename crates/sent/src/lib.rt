@@ -1,4 +1,6 @@
 // A send on its channel (Rust: the state half of Channel::prepare), by value: the channel after it, and what it leaves beside it.
+#![tactic(auto)]
+
 ghost use Rattle.std.specs.Prelude.{◌≡◌, true, ◌++◌, ◌+◌, ◌≤◌};
 ghost use Rattle.seq.specs.Num as Num;
 ghost use Rattle.model.specs.Rust.{sent_entries, answer_of};
@@ -65,7 +67,7 @@ fn add_sent(o: OutList, time: u64, first: u32, h: Handles) -> OutList
 }
 
 // What a send leaves beside its channel: the table's time and source, the refusal's number or 0, and what was prepared.
-#[derive(Drop)]
+#[derive(Clone, Copy)]
 pub struct Left {
     pub latest: u64,
     pub source: u32,
@@ -73,13 +75,13 @@ pub struct Left {
     pub prepared: Prepared,
 }
 
-#[derive(Drop)]
+#[derive(Clone, Copy)]
 pub struct OnSent {
     pub channel: OnChannel,
     pub left: Left,
 }
 
-#[derive(Drop)]
+#[derive(Clone, Copy)]
 pub struct OffSent {
     pub channel: OffChannel,
     pub left: Left,

@@ -1,5 +1,7 @@
 // Sequence numbers, the number source and the prefix sum: the Rust's `seq.rs`, and `update_prefix`
 // of its `packet.rs`. Every function takes every u32, and its contract says the answer for each.
+#![tactic(auto)]
+
 ghost use Rattle.std.specs.Prelude.{◌≡◌};
 ghost use Rattle.seq.specs.Num as Num;
 ghost use Rattle.seq.specs.Prefix.{prefix};
@@ -7,14 +9,14 @@ ghost use Rattle.seq.specs.Prefix.{prefix};
 pub mod host;
 
 // "A number and a distance between two numbers are kept as separate kinds."
-#[derive(Drop)]
+#[derive(Clone, Copy)]
 pub struct Seq(pub u32);
 
-#[derive(Drop)]
+#[derive(Clone, Copy)]
 pub struct Delta(pub u32);
 
 // The Rust's `Ordering`.
-#[derive(Drop)]
+#[derive(Clone, Copy)]
 pub enum Order {
     Less,
     Equal,
@@ -96,13 +98,13 @@ impl Seq {
 }
 
 // The number source. Its state goes in by value and comes back.
-#[derive(Drop)]
+#[derive(Clone, Copy)]
 pub struct SeqAlloc {
     pub next: Seq,
 }
 
 // What `alloc` leaves, and the first of the numbers that it hands out.
-#[derive(Drop)]
+#[derive(Clone, Copy)]
 pub struct Allocated {
     pub source: SeqAlloc,
     pub first: Seq,

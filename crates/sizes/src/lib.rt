@@ -1,4 +1,6 @@
 // The sizes in bytes of what crosses to the host, by number; `door` hands them on, and shows that they are those of the structs in memory.
+#![tactic(auto)]
+
 ghost use Rattle.std.specs.Prelude.{◌≡◌};
 ghost use Rattle.sizes.specs.Sizes.{size_of};
 

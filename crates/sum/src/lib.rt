@@ -1,4 +1,6 @@
 // The sum of a table: every word of it in order, so that two tables that differ hardly have the same sum.
+#![tactic(auto)]
+
 use ack_queue::AckQueue;
 use bundles::Bundles;
 use channel::{OffChannel, OnChannel};

@@ -1,4 +1,6 @@
 // The table that the host lends: channels by key in order of creation, and the shared numbers. Integers only; unused places are zero.
+#![tactic(auto)]
+
 ghost use Rattle.std.specs.Prelude.{◌≡◌, cond, map, ◌≤◌, take};
 ghost use Rattle.lists.specs.Find.{slot_of};
 ghost use Rattle.model.specs.State as model;
@@ -10,7 +12,7 @@ use channel::{OffChannel, OnChannel};
 // Rust: Protocol and ProtocolShared, with the latest time. forwarding is follows_accepted, prefix is last_accepted_prefix, offset is
 // prefix_offset, source is off_seq_alloc.
 #[repr(C)]
-#[derive(Drop)]
+#[derive(Clone, Copy)]
 pub struct Table {
     pub latest: u64,
     pub forwarding: u32,
@@ -24,14 +26,14 @@ pub struct Table {
 }
 
 // An on-channel's key.
-#[derive(Drop)]
+#[derive(Clone, Copy)]
 pub struct OnKey {
     pub address: u32,
     pub index: u32,
 }
 
 // The keys of a table's channels, apart from their lists, so that a call looks for a channel without moving one.
-#[derive(Drop)]
+#[derive(Clone, Copy)]
 pub struct Keys {
     pub offs: [u32; 4],
     pub ons: [OnKey; 8],

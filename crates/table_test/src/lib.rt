@@ -1,4 +1,6 @@
 // "A table is well formed if ..": the test, for any table.
+#![tactic(auto)]
+
 ghost use Rattle.std.specs.Prelude.{◌≡◌, ◌&&◌, ◌≤◌, leb, take};
 ghost use Rattle.seq.specs.Num as Num;
 ghost use Rattle.packet.specs.Data.{is_flag};

@@ -1,4 +1,6 @@
 // Bundles from the contiguous queue: one look at its front (Rust: a turn of OnChannelData::pop_in_reliable_bundle).
+#![tactic(auto)]
+
 ghost use Rattle.std.specs.Prelude.{◌≡◌, ◌+◌, ◌≤◌, length, take, drop};
 ghost use Rattle.packet.specs.Data.{range_of};
 ghost use Rattle.model.specs.Group.{is_range, share};
@@ -10,7 +12,7 @@ use packet::Packet;
 use seq::Seq;
 
 // What the front of the queue asks: stop, drop so many packets, or make a bundle of so many.
-#[derive(Drop)]
+#[derive(Clone, Copy)]
 pub enum Pop {
     Stop,
     Skip(usize),

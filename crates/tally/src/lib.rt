@@ -1,4 +1,6 @@
 // The parts of a delivery that are its answer's: its refusals 1 to 3, what a record's refusal leaves, and the answer so far.
+#![tactic(auto)]
+
 ghost use Rattle.std.specs.Prelude.{◌≡◌, ◌≤◌};
 ghost use Rattle.model.specs.Port.{delivery_made};
 ghost use Rattle.records.specs.Records.{drops};
@@ -10,7 +12,7 @@ use packet::View;
 use table::Table;
 
 // The answer so far: the last record's refusal or 0, "the count of records not refused", and the last record's channel.
-#[derive(Drop)]
+#[derive(Clone, Copy)]
 pub struct Tally {
     pub code: u32,
     pub count: u32,
@@ -18,7 +20,7 @@ pub struct Tally {
 }
 
 // What the loop over the records begins with: the table's latest time, how many records are looked at, and the answer before the first.
-#[derive(Drop)]
+#[derive(Clone, Copy)]
 pub struct Start {
     pub latest: u64,
     pub n: usize,

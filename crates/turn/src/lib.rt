@@ -1,4 +1,6 @@
 // One turn of a delivery's loop: how far the delivery has come, and a record on its channel, which is made where it is new.
+#![tactic(auto)]
+
 ghost use Rattle.std.specs.Prelude.{◌≡◌, true, false, ◌≤◌, ◌<◌};
 ghost use Rattle.packet.specs.Data.{is_set, well_made};
 ghost use Rattle.model.specs.Record.{on_record, off_record};
@@ -16,7 +18,7 @@ use table::Table;
 use tally::Tally;
 
 // The answer so far, and what of the table the records change beside its channels.
-#[derive(Drop)]
+#[derive(Clone, Copy)]
 pub struct Course {
     pub done: Tally,
     pub beside: Beside,

@@ -1,4 +1,6 @@
 // Packets that wait on an on-channel: the buffer and the contiguous queue alike (Rust: the two VecDeque of OnChannelData).
+#![tactic(auto)]
+
 ghost use Rattle.std.specs.Prelude.{◌≡◌, [], ◌&&◌, ◌≤◌, ◌<◌, length, drop};
 ghost use Rattle.lists.specs.Pad.{all_b};
 ghost use Rattle.lists.specs.Find.{has};
@@ -15,7 +17,7 @@ use seq::{Order, Seq};
 
 // Rust: in_reliable_packets of OnChannelData, the buffer, and in_reliable_contiguous_packets, the queue.
 #[repr(C)]
-#[derive(Drop)]
+#[derive(Clone, Copy)]
 pub struct Waiting {
     pub len: u32,
     pub packets: [Packet; 32],

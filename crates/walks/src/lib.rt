@@ -1,4 +1,6 @@
 // The walks of the calls over lent memory stand in proofs/, whatever the structs are; this crate has no code of its own.
+#![tactic(auto)]
+
 ghost use Rattle.std.specs.Prelude.{◌≡◌};
 
 pub fn zero() -> u32

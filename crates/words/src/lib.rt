@@ -1,18 +1,20 @@
 // A line's words and numbers (01, "The driver"): each reader is given the rest of the line, and tells how much of it its word takes.
+#![tactic(auto)]
+
 ghost use Rattle.std.specs.Prelude.{◌≡◌, ◌≤◌, ◌<◌, length};
 ghost use Rattle.words.specs.Words as Words;
 
 const MOST32: u64 = 0xFFFF_FFFF;
 
 // A number's value, and how much of the line its digits take.
-#[derive(Drop)]
+#[derive(Clone, Copy)]
 pub enum Number {
     Value(u64, usize),
     NoNumber,
 }
 
 // A word with its number: the number, and how much of the line both take.
-#[derive(Drop)]
+#[derive(Clone, Copy)]
 pub enum Field {
     Given(u32, usize),
     Absent,
@@ -20,7 +22,7 @@ pub enum Field {
 }
 
 // A word with two numbers.
-#[derive(Drop)]
+#[derive(Clone, Copy)]
 pub enum Pair {
     Both(u32, u32, usize),
     Neither,

@@ -1,5 +1,7 @@
 // The driver's answers (01, "The driver"), written into a lent buffer from a place on. Each function answers the place after what it
 // wrote; the rest of the buffer keeps its contents.
+#![tactic(auto)]
+
 ghost use Rattle.std.specs.Prelude.{[], ◌∷◌, ◌+◌, ◌≤◌, ◌<◌, length, take};
 ghost use Rattle.writing.specs.Answers as Answers;
 ghost use Rattle.writing.specs.Wrote.{Wrote};

@@ -1,4 +1,6 @@
 // The report of written acks (Rust: the other half of Channel::prepare, which takes them off the ack queue).
+#![tactic(auto)]
+
 ghost use Rattle.std.specs.Prelude.{◌≡◌, ◌≤◌};
 ghost use Rattle.model.specs.Acks.{take_written};
 ghost use Rattle.ack_queue.specs.Queue as acks;
