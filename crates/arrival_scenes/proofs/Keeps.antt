@@ -3,7 +3,6 @@ use mathlib.Core.Path.{◌≡◌, refl}
 use mathlib.Core.Bool.{Bool, true, false, cond, ◌&&◌}
 use mathlib.Core.List.{[]}
 use Prim.Native.Nat.{ℕ, zero-le}
-use borrow.Author.Rules.{rules}
 use borrow.Author.Tests.{leb-true}
 use lib.Dec.{leb}
 use lib.ListN.{length}
@@ -54,5 +53,3 @@ module _ (s : Reordered) (k : ArrivalsKept s) where
   arrivals_add r p e =
       let m = arrive (state_of s.expected s.buffer s.queue s.bundles) p in
       rw e (either (within m) m refl)
-
-pub ruleset keeps = (arrivals_new, arrivals_add, rules)

@@ -1,2 +1,1 @@
 pub mod Batches
-mod Steps

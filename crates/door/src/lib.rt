@@ -15,10 +15,28 @@ use lending::Arrival;
 use packet::{Key, Prepared, Record, View};
 use table::Table;
 
+// What crosses lies in memory as the host's own structs do.
+const _: () = prove!(size_of::<Table>() == 43584);
+
+const _: () = prove!(size_of::<Record>() == 96);
+
+const _: () = prove!(size_of::<Key>() == 16);
+
+const _: () = prove!(size_of::<View>() == 20);
+
+const _: () = prove!(size_of::<Arrival>() == 24);
+
+const _: () = prove!(size_of::<Prepared>() == 28);
+
+const _: () = prove!(size_of::<Handles>() == 68);
+
+const _: () = prove!(size_of::<Names>() == 260);
+
 // A new table, forwarding or not, in the place of whatever was there: 0. For a flag other than 0 or 1 it is 2, and the memory is as it was.
 #[unsafe(no_mangle)]
 pub extern "C" fn relay_new(t: &mut Table, forwarding: u32) -> u32
-    ensures { (t.new ≡ (renewed t.old forwarding).table) × (result ≡ (renewed t.old forwarding).number) }
+    ensures table { t.new ≡ (renewed t.old forwarding).table }
+    ensures number { result ≡ (renewed t.old forwarding).number }
 {
     let c = *t;
     let s = renewal::renewed(c, forwarding);
@@ -45,9 +63,9 @@ pub extern "C" fn relay_accept(
     records: &[Record],
     answer: &mut Arrival,
 ) -> u32
-    ensures { (t.new ≡ (delivered t.old time address records.now).table)
-        × (answer.new ≡ (delivered t.old time address records.now).answer)
-        × (result ≡ (delivered t.old time address records.now).code) }
+    ensures table { t.new ≡ (delivered t.old time address records.now).table }
+    ensures answer { answer.new ≡ (delivered t.old time address records.now).answer }
+    ensures code { result ≡ (delivered t.old time address records.now).code }
 {
     let c = *t;
     let b = batches::batch_of(records);
@@ -66,9 +84,9 @@ pub extern "C" fn relay_accept_out(
     r: &Record,
     answer: &mut View,
 ) -> u32
-    ensures { (t.new ≡ (accepted_out t.old time address r.now).table)
-        × (answer.new ≡ (accepted_out t.old time address r.now).view)
-        × (result ≡ (accepted_out t.old time address r.now).code) }
+    ensures table { t.new ≡ (accepted_out t.old time address r.now).table }
+    ensures answer { answer.new ≡ (accepted_out t.old time address r.now).view }
+    ensures code { result ≡ (accepted_out t.old time address r.now).code }
 {
     let c = *t;
     let d = *r;
@@ -81,9 +99,9 @@ pub extern "C" fn relay_accept_out(
 // 0 or the refusal; the channel, found or made, is written to the answer.
 #[unsafe(no_mangle)]
 pub extern "C" fn relay_channel(t: &mut Table, k: &Key, answer: &mut View) -> u32
-    ensures { (t.new ≡ (channel_of t.old k.now).table)
-        × (answer.new ≡ (channel_of t.old k.now).view)
-        × (result ≡ (channel_of t.old k.now).code) }
+    ensures table { t.new ≡ (channel_of t.old k.now).table }
+    ensures answer { answer.new ≡ (channel_of t.old k.now).view }
+    ensures code { result ≡ (channel_of t.old k.now).code }
 {
     let c = *t;
     let d = *k;
@@ -96,9 +114,9 @@ pub extern "C" fn relay_channel(t: &mut Table, k: &Key, answer: &mut View) -> u3
 // 0 for no bundle, else the bundle's length and one more; 2^31 and the number for a refusal.
 #[unsafe(no_mangle)]
 pub extern "C" fn relay_next_bundle(t: &mut Table, k: &Key, lent: &mut [u32]) -> u32
-    ensures { (t.new ≡ (next_of t.old k.now lent.old).table)
-        × (lent.new ≡ next_lent t.old k.now lent.old)
-        × (result ≡ Spec.bundle_number (next_of t.old k.now lent.old)) }
+    ensures table { t.new ≡ (next_of t.old k.now lent.old).table }
+    ensures lent { lent.new ≡ next_lent t.old k.now lent.old }
+    ensures number { result ≡ Spec.bundle_number (next_of t.old k.now lent.old) }
 {
     let c = *t;
     let d = *k;
@@ -117,9 +135,9 @@ pub extern "C" fn relay_prepare(
     h: &Handles,
     answer: &mut Prepared,
 ) -> u32
-    ensures { (t.new ≡ (prepared_by t.old time k.now reliable h.now).table)
-        × (answer.new ≡ (prepared_by t.old time k.now reliable h.now).prepared)
-        × (result ≡ (prepared_by t.old time k.now reliable h.now).code) }
+    ensures table { t.new ≡ (prepared_by t.old time k.now reliable h.now).table }
+    ensures answer { answer.new ≡ (prepared_by t.old time k.now reliable h.now).prepared }
+    ensures code { result ≡ (prepared_by t.old time k.now reliable h.now).code }
 {
     let c = *t;
     let d = *k;
@@ -133,7 +151,8 @@ pub extern "C" fn relay_prepare(
 // 0 or the refusal.
 #[unsafe(no_mangle)]
 pub extern "C" fn relay_acks_written(t: &mut Table, k: &Key, n: &Names) -> u32
-    ensures { (t.new ≡ (wrote_acks t.old k.now n.now).table) × (result ≡ (wrote_acks t.old k.now n.now).code) }
+    ensures table { t.new ≡ (wrote_acks t.old k.now n.now).table }
+    ensures code { result ≡ (wrote_acks t.old k.now n.now).code }
 {
     let c = *t;
     let d = *k;
@@ -152,9 +171,9 @@ pub extern "C" fn relay_take_resends(
     giveup: u64,
     lent: &mut [u32],
 ) -> u32
-    ensures { (t.new ≡ (resends_of t.old time timeout giveup lent.old).table)
-        × (lent.new ≡ resends_lent t.old time timeout giveup lent.old)
-        × (result ≡ Spec.rows_number (resends_of t.old time timeout giveup lent.old)) }
+    ensures table { t.new ≡ (resends_of t.old time timeout giveup lent.old).table }
+    ensures lent { lent.new ≡ resends_lent t.old time timeout giveup lent.old }
+    ensures number { result ≡ Spec.rows_number (resends_of t.old time timeout giveup lent.old) }
 {
     let c = *t;
     let s = lending::resend_number(c, time, timeout, giveup, lent);
@@ -185,7 +204,8 @@ pub extern "C" fn relay_last_accepted_prefix(t: &Table) -> u64
 // 0 or the refusal, 1 alone.
 #[unsafe(no_mangle)]
 pub extern "C" fn relay_reset_prefix_offset(t: &mut Table) -> u32
-    ensures { (t.new ≡ (reset_of t.old).table) × (result ≡ (reset_of t.old).code) }
+    ensures table { t.new ≡ (reset_of t.old).table }
+    ensures code { result ≡ (reset_of t.old).code }
 {
     let c = *t;
     let s = prefixes::reset_prefix_offset(c);
@@ -196,7 +216,8 @@ pub extern "C" fn relay_reset_prefix_offset(t: &mut Table) -> u32
 // 0 or the refusal, 1 alone (Rust: transfer_prefix_offset_from_last_received).
 #[unsafe(no_mangle)]
 pub extern "C" fn relay_transfer_prefix_offset(t: &mut Table) -> u32
-    ensures { (t.new ≡ (transfer_of t.old).table) × (result ≡ (transfer_of t.old).code) }
+    ensures table { t.new ≡ (transfer_of t.old).table }
+    ensures code { result ≡ (transfer_of t.old).code }
 {
     let c = *t;
     let s = prefixes::transfer_prefix_offset_from_last_received(c);

@@ -27,14 +27,16 @@ pub struct Arrived {
 }
 
 pub fn next_number(t: Table, k: Key, lent: &mut [u32]) -> Numbered
-    ensures { (result ≡ Spec.next_numbered t k lent.old) × (lent.new ≡ next_lent t k lent.old) }
+    ensures value { result ≡ Spec.next_numbered t k lent.old }
+    ensures lent_after { lent.new ≡ next_lent t k lent.old }
 {
     let p = handout::next_bundle(t, k, lent);
     crossing::popped_number(p)
 }
 
 pub fn resend_number(t: Table, time: u64, timeout: u64, giveup: u64, lent: &mut [u32]) -> Numbered
-    ensures { (result ≡ Spec.resends_numbered t time timeout giveup lent.old) × (lent.new ≡ resends_lent t time timeout giveup lent.old) }
+    ensures value { result ≡ Spec.resends_numbered t time timeout giveup lent.old }
+    ensures lent_after { lent.new ≡ resends_lent t time timeout giveup lent.old }
 {
     let s = resends::take_resends(t, time, timeout, giveup, lent);
     crossing::rows_number(s)

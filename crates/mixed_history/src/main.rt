@@ -4,30 +4,35 @@
 
 mod play;
 
+use std::io;
+use std::io::{BufWriter, Write};
 use table::Table;
 
-fn stepped(t: Table, step: u32, k: u32) -> Table {
-    print::digits(step);
-    print::text(b" ");
-    let u = play::call(t, step, k);
-    print::text(b" sum");
-    print::number(sum::of_table(u));
-    print::end();
-    u
+fn stepped<W: Write>(out: &mut W, t: Table, step: u32, k: u32) -> io::Result<Table> {
+    print::digits(out, step)?;
+    print::text(out, b" ")?;
+    let u = play::call(out, t, step, k)?;
+    print::text(out, b" sum")?;
+    print::number(out, sum::of_table(u))?;
+    print::end(out)?;
+    Ok(u)
 }
 
-fn malformed(t: Table) {
+fn malformed<W: Write>(out: &mut W, t: Table) -> io::Result<()> {
     let mut u = t;
     u.oncount = 4294967295;
     for k in 0..100 {
-        u = stepped(u, 2000, k);
+        u = stepped(out, u, 2000, k)?;
     }
+    Ok(())
 }
 
-fn main() {
+fn main(rt: HostRuntime) -> io::Result<()> {
+    let mut out = BufWriter::new(rt.alloc(), rt.stdout())?;
     let mut t = Table::new(true);
     for step in 0..2000 {
-        t = stepped(t, step, draw::pick(step, 0, 59, 100));
+        t = stepped(&mut out, t, step, draw::pick(step, 0, 59, 100))?;
     }
-    malformed(t);
+    malformed(&mut out, t)?;
+    out.flush()
 }

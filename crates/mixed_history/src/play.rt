@@ -1,143 +1,145 @@
 // One step of the history: a call with what is drawn for it, and its answer written out.
 use packet::{Prepared, View};
+use std::io;
+use std::io::Write;
 use table::Table;
 
-fn show(v: View) {
-    print::number(v.on);
-    print::number(v.address);
-    print::number(v.index);
-    print::number(v.version);
-    print::number(v.expected);
+fn show<W: Write>(out: &mut W, v: View) -> io::Result<()> {
+    print::number(out, v.on)?;
+    print::number(out, v.address)?;
+    print::number(out, v.index)?;
+    print::number(out, v.version)?;
+    print::number(out, v.expected)
 }
 
-fn deliver(t: Table, step: u32) -> Table {
+fn deliver<W: Write>(out: &mut W, t: Table, step: u32) -> io::Result<Table> {
     let b = draw::batch(step);
     let d = receive::accept(t, draw::time(step), draw::address(step), b);
-    print::text(b"in");
-    print::granted(d.code);
-    print::number(d.count);
+    print::text(out, b"in")?;
+    print::granted(out, d.code)?;
+    print::number(out, d.count)?;
     let v = d.view;
-    show(v);
-    d.table
+    show(out, v)?;
+    Ok(d.table)
 }
 
-fn forward_out(t: Table, step: u32) -> Table {
+fn forward_out<W: Write>(out: &mut W, t: Table, step: u32) -> io::Result<Table> {
     let r = draw::record(step, 0);
     let f = forward::accept_out(t, draw::time(step), draw::address(step), r);
-    print::text(b"out");
-    print::granted(f.code);
+    print::text(out, b"out")?;
+    print::granted(out, f.code)?;
     let v = f.view;
-    show(v);
-    f.table
+    show(out, v)?;
+    Ok(f.table)
 }
 
-fn find(t: Table, step: u32) -> Table {
+fn find<W: Write>(out: &mut W, t: Table, step: u32) -> io::Result<Table> {
     let k = draw::key(step);
     let f = channels::channel(t, k);
-    print::text(b"find");
-    print::granted(f.code);
+    print::text(out, b"find")?;
+    print::granted(out, f.code)?;
     let v = f.view;
-    show(v);
-    f.table
+    show(out, v)?;
+    Ok(f.table)
 }
 
-fn show_sent(p: Prepared) {
-    print::number(p.allocated);
-    print::number(p.first);
-    print::number(p.on);
-    print::number(p.expected);
-    print::number(p.index);
-    print::number(p.version);
-    print::number(p.offset);
+fn show_sent<W: Write>(out: &mut W, p: Prepared) -> io::Result<()> {
+    print::number(out, p.allocated)?;
+    print::number(out, p.first)?;
+    print::number(out, p.on)?;
+    print::number(out, p.expected)?;
+    print::number(out, p.index)?;
+    print::number(out, p.version)?;
+    print::number(out, p.offset)
 }
 
-fn prepare(t: Table, step: u32) -> Table {
+fn prepare<W: Write>(out: &mut W, t: Table, step: u32) -> io::Result<Table> {
     let k = draw::key(step);
     let h = draw::handles(step);
     let s = send::prepare(t, draw::time(step), k, draw::reliable(step), h);
-    print::text(b"prep");
-    print::granted(s.code);
+    print::text(out, b"prep")?;
+    print::granted(out, s.code)?;
     let p = s.prepared;
-    show_sent(p);
-    s.table
+    show_sent(out, p)?;
+    Ok(s.table)
 }
 
-fn wrote(t: Table, step: u32) -> Table {
+fn wrote<W: Write>(out: &mut W, t: Table, step: u32) -> io::Result<Table> {
     let k = draw::key(step);
     let n = draw::names(step);
     let d = written::acks_written(t, k, n);
-    print::text(b"wrote");
-    print::granted(d.code);
-    d.table
+    print::text(out, b"wrote")?;
+    print::granted(out, d.code)?;
+    Ok(d.table)
 }
 
-fn held(t: Table, step: u32) -> Table {
+fn held<W: Write>(out: &mut W, t: Table, step: u32) -> io::Result<Table> {
     let h = holding::holds(t, draw::pick(step, 0, 58, 1000000));
-    print::text(b"holds");
-    print::granted(h.code);
-    print::number(h.held);
-    t
+    print::text(out, b"holds")?;
+    print::granted(out, h.code)?;
+    print::number(out, h.held)?;
+    Ok(t)
 }
 
-fn prefix(t: Table) -> Table {
+fn prefix<W: Write>(out: &mut W, t: Table) -> io::Result<Table> {
     let p = prefixes::last_accepted_prefix(t);
-    print::text(b"prefix");
-    print::granted(p.code);
-    print::number(p.prefix);
-    t
+    print::text(out, b"prefix")?;
+    print::granted(out, p.code)?;
+    print::number(out, p.prefix)?;
+    Ok(t)
 }
 
-fn reset(t: Table) -> Table {
+fn reset<W: Write>(out: &mut W, t: Table) -> io::Result<Table> {
     let d = prefixes::reset_prefix_offset(t);
-    print::text(b"reset");
-    print::granted(d.code);
-    d.table
+    print::text(out, b"reset")?;
+    print::granted(out, d.code)?;
+    Ok(d.table)
 }
 
-fn transfer(t: Table) -> Table {
+fn transfer<W: Write>(out: &mut W, t: Table) -> io::Result<Table> {
     let d = prefixes::transfer_prefix_offset_from_last_received(t);
-    print::text(b"transfer");
-    print::granted(d.code);
-    d.table
+    print::text(out, b"transfer")?;
+    print::granted(out, d.code)?;
+    Ok(d.table)
 }
 
 // The call of kind k, from 0 to 99: as often as it has numbers.
-pub fn call(t: Table, step: u32, k: u32) -> Table {
+pub fn call<W: Write>(out: &mut W, t: Table, step: u32, k: u32) -> io::Result<Table> {
     if k < 44 {
-        return deliver(t, step);
+        return deliver(out, t, step);
     }
     if k < 56 {
-        return forward_out(t, step);
+        return forward_out(out, t, step);
     }
     if k < 60 {
-        return find(t, step);
+        return find(out, t, step);
     }
     if k < 76 {
         if draw::short(step) {
-            return handed::hand_out_short(t, step);
+            return handed::hand_out_short(out, t, step);
         }
-        return handed::hand_out(t, step);
+        return handed::hand_out(out, t, step);
     }
     if k < 84 {
-        return prepare(t, step);
+        return prepare(out, t, step);
     }
     if k < 90 {
-        return wrote(t, step);
+        return wrote(out, t, step);
     }
     if k < 94 {
         if draw::short(step) {
-            return handed::resend_short(t, step);
+            return handed::resend_short(out, t, step);
         }
-        return handed::resend(t, step);
+        return handed::resend(out, t, step);
     }
     if k < 96 {
-        return held(t, step);
+        return held(out, t, step);
     }
     if k < 98 {
-        return prefix(t);
+        return prefix(out, t);
     }
     if k == 98 {
-        return reset(t);
+        return reset(out, t);
     }
-    transfer(t)
+    transfer(out, t)
 }

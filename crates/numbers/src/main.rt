@@ -2,8 +2,9 @@
 // numbers, computed by the crate `seq` and written one to a line.
 #![tactic(auto)]
 
-use libc::STDOUT_FILENO;
 use seq::{Order, Seq, SeqAlloc};
+use std::io;
+use std::io::{BufWriter, Write};
 
 fn digit(n: u32) -> u8 {
     let d = n % 16;
@@ -14,7 +15,7 @@ fn digit(n: u32) -> u8 {
 }
 
 // A number, in eight hexadecimal digits.
-fn number(n: u32) {
+fn number<W: Write>(out: &mut W, n: u32) -> io::Result<()> {
     let text = [
         digit(n >> 28),
         digit(n >> 24),
@@ -25,49 +26,45 @@ fn number(n: u32) {
         digit(n >> 4),
         digit(n),
     ];
-    io::write_all(STDOUT_FILENO, b" = 0x");
-    io::write_all(STDOUT_FILENO, &text);
-    io::write_all(STDOUT_FILENO, b"\n");
+    out.write_all(b" = 0x")?;
+    out.write_all(&text)?;
+    out.write_all(b"\n")
 }
 
-fn order(o: Order) {
+fn order<W: Write>(out: &mut W, o: Order) -> io::Result<()> {
     match o {
-        Order::Less => {
-            io::write_all(STDOUT_FILENO, b" = Less\n");
-        }
-        Order::Equal => {
-            io::write_all(STDOUT_FILENO, b" = Equal\n");
-        }
-        Order::Greater => {
-            io::write_all(STDOUT_FILENO, b" = Greater\n");
-        }
+        Order::Less => out.write_all(b" = Less\n"),
+        Order::Equal => out.write_all(b" = Equal\n"),
+        Order::Greater => out.write_all(b" = Greater\n"),
     }
 }
 
-fn numbers() {
-    io::write_all(STDOUT_FILENO, b"0 - 1");
-    number(Seq(0).sub(1).get());
-    io::write_all(STDOUT_FILENO, b"0 against 0x08000000");
-    order(Seq(0).compare(Seq(0x0800_0000)));
-    io::write_all(STDOUT_FILENO, b"0x08000000 against 0");
-    order(Seq(0x0800_0000).compare(Seq(0)));
+fn numbers<W: Write>(out: &mut W) -> io::Result<()> {
+    out.write_all(b"0 - 1")?;
+    number(out, Seq(0).sub(1).get())?;
+    out.write_all(b"0 against 0x08000000")?;
+    order(out, Seq(0).compare(Seq(0x0800_0000)))?;
+    out.write_all(b"0x08000000 against 0")?;
+    order(out, Seq(0x0800_0000).compare(Seq(0)))
 }
 
-fn source() {
+fn source<W: Write>(out: &mut W) -> io::Result<()> {
     let a = SeqAlloc::new(Seq(0x0FFF_FFFE)).alloc(4);
     let left = a.source;
-    io::write_all(STDOUT_FILENO, b"alloc 4 at 0x0ffffffe answers");
-    number(a.first.get());
-    io::write_all(STDOUT_FILENO, b"alloc 4 at 0x0ffffffe leaves");
-    number(left.next.get());
+    out.write_all(b"alloc 4 at 0x0ffffffe answers")?;
+    number(out, a.first.get())?;
+    out.write_all(b"alloc 4 at 0x0ffffffe leaves")?;
+    number(out, left.next.get())?;
     let stayed = SeqAlloc::new(Seq(5)).observe(Seq(0x0FFF_FFFF));
-    io::write_all(STDOUT_FILENO, b"observe 0x0fffffff at 5 leaves");
-    number(stayed.next.get());
+    out.write_all(b"observe 0x0fffffff at 5 leaves")?;
+    number(out, stayed.next.get())
 }
 
-fn main() {
-    numbers();
-    source();
-    io::write_all(STDOUT_FILENO, b"prefix sum for a = 1");
-    number(seq::prefix_sum(1, 0, 0));
+fn main(rt: HostRuntime) -> io::Result<()> {
+    let mut out = BufWriter::new(rt.alloc(), rt.stdout())?;
+    numbers(&mut out)?;
+    source(&mut out)?;
+    out.write_all(b"prefix sum for a = 1")?;
+    number(&mut out, seq::prefix_sum(1, 0, 0))?;
+    out.flush()
 }

@@ -52,7 +52,7 @@ module _ (o : OutList) (address t timeout age : ℕ) (w : Wf o) where
       let l = keep_by (young t age) (abs o) in
       wf_of s.out (map (mark t timeout) l) (ap (λ (x : Listed). x.out) e) (omega (arith, length-map l (mark t timeout), length-keep (young t age) (abs o), wf_le o w))
 
-  rows_few : length (flat (list_rows address t timeout age o)) ≤ 64
+  pub rows_few : length (flat (list_rows address t timeout age o)) ≤ 64
   unfolding list_rows
   rows_few =
       let l = keep_by (young t age) (abs o) in

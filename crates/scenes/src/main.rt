@@ -4,21 +4,26 @@
 
 mod out;
 
-fn main() {
-    out::limit();
-    out::cumulative();
-    out::half();
-    out::singles();
-    out::inserted();
-    out::repeated();
-    out::due();
-    out::given_up();
-    out::never_due();
-    out::held();
-    out::tested();
-    ack_scenes::limit();
-    ack_scenes::forwarded();
-    ack_scenes::forwarded_cumulative();
-    ack_scenes::written();
-    ack_scenes::tested();
+use std::io;
+use std::io::{BufWriter, Write};
+
+fn main(rt: HostRuntime) -> io::Result<()> {
+    let mut out = BufWriter::new(rt.alloc(), rt.stdout())?;
+    out::limit(&mut out)?;
+    out::cumulative(&mut out)?;
+    out::half(&mut out)?;
+    out::singles(&mut out)?;
+    out::inserted(&mut out)?;
+    out::repeated(&mut out)?;
+    out::due(&mut out)?;
+    out::given_up(&mut out)?;
+    out::never_due(&mut out)?;
+    out::held(&mut out)?;
+    out::tested(&mut out)?;
+    ack_scenes::limit(&mut out)?;
+    ack_scenes::forwarded(&mut out)?;
+    ack_scenes::forwarded_cumulative(&mut out)?;
+    ack_scenes::written(&mut out)?;
+    ack_scenes::tested(&mut out)?;
+    out.flush()
 }

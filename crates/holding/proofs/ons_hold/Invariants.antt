@@ -1,0 +1,10 @@
+use Prim.Native.Nat.{◌-◌}
+use Rattle.lists.proofs.Looking.{Asking}
+use Rattle.holding.proofs.Held.{on_holds, asking}
+use Rattle.holding.proofs.ons_hold.Given as goal
+
+abbrev pub invariant-loop-i : goal.invariant-loop-i
+invariant-loop-i l = Asking (on_holds l.handle) 8 l.l l.n l.i
+
+abbrev pub decreases-loop-i : goal.decreases-loop-i
+decreases-loop-i l = l.n - l.i

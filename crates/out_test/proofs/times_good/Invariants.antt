@@ -1,0 +1,13 @@
+-- The first i places are tested. Assumes nothing.
+use Prim.Native.Nat.{◌-◌}
+use Rattle.lists.proofs.Looking.{Testing, testing_step}
+use Rattle.packet.specs.Data.{no_entry}
+use Rattle.out_test.specs.Test.{times_good, no_times}
+use Rattle.out_test.proofs.Test.{testing}
+use Rattle.out_test.proofs.times_good.Given as goal
+
+abbrev pub invariant-loop-i : goal.invariant-loop-i
+invariant-loop-i l = Testing (times_good l.latest) no_times 32 l.n l.o.entries l.good l.i
+
+abbrev pub decreases-loop-i : goal.decreases-loop-i
+decreases-loop-i l = 32 - l.i

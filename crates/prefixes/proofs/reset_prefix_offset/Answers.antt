@@ -1,0 +1,11 @@
+use Rattle.prefixes.proofs.Prefixes.{prefixes}
+use Rattle.prefixes.proofs.reset_prefix_offset.Goals as goal
+
+pub well_formed-requires : goal.well_formed-requires
+well_formed-requires c = search prefixes
+
+pub returns-then-not-well_formed : goal.returns-then-not-well_formed
+returns-then-not-well_formed c = search prefixes
+
+pub returns : goal.returns
+returns c = search prefixes

@@ -1,0 +1,15 @@
+use Rattle.sent.proofs.Steps.{over_fits, on_sent_loose, on_sent_over, on_sent_granted}
+use borrow.Author.Rules.{rules}
+use Rattle.sent.proofs.send_on.Goals as goal
+
+pub returns-then-reliable-ne1 : goal.returns-then-reliable-ne1
+returns-then-reliable-ne1 c = on_sent_loose c.args.c c.args.a c.args.time c.args.offset c.args.reliable c.args.h _ c.on_view-v.ensures _ c.if-reliable-ne1.true c.send_loose-loose.ensures
+
+pub overflow_add-o : goal.overflow_add-o
+overflow_add-o c = over_fits c.args.c.out c.args.h.count c.requires.wf c.requires.count_bound
+
+pub returns-then-o-h-gt32 : goal.returns-then-o-h-gt32
+returns-then-o-h-gt32 c = on_sent_over c.args.c c.args.a c.args.time c.args.offset c.args.reliable c.args.h _ c.on_view-v.ensures c.if-reliable-ne1.false _ c.if-o-h-gt32.true c.stopped-full.ensures
+
+pub returns : goal.returns
+returns c = on_sent_granted c.args.c c.args.a c.args.time c.args.offset c.args.reliable c.args.h _ c.on_view-v.ensures c.if-reliable-ne1.false _ _ _ c.if-o-h-gt32.false c.add_sent-all.ensures c.moved_on-next.ensures c.answer-p.ensures

@@ -1,0 +1,11 @@
+use Prim.Native.Nat.{◌-◌}
+use Rattle.lists.proofs.Copies.{Filling}
+use Rattle.table.specs.Keys.{off_key}
+use Rattle.table.proofs.Steps.{filling}
+use Rattle.table.proofs.off_keys.Given as goal
+
+abbrev pub invariant-loop-i : goal.invariant-loop-i
+invariant-loop-i l = Filling off_key 4 l.l l.r l.i
+
+abbrev pub decreases-loop-i : goal.decreases-loop-i
+decreases-loop-i l = 4 - l.i

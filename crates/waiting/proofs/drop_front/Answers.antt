@@ -1,0 +1,13 @@
+use borrow.Author.Rules.{rules}
+use Prim.Native.Nat.{◌-◌}
+use Rattle.waiting.proofs.Steps.{Dropping, drop-start, dropping_step, dropping_end}
+use Rattle.waiting.proofs.drop_front.Goals as goal
+
+pub loop-j-init : goal.loop-j-init
+loop-j-init c = search drop-start
+
+pub loop-j-preserved : goal.loop-j-preserved
+loop-j-preserved c = search dropping_step
+
+pub returns : goal.returns
+returns c = search dropping_end
