@@ -213,10 +213,10 @@ module _ (k : Key) (ns : List ℕ) (s : State) where
   wrote_agrees true n = wrote-queue (rust.has_key k s.protocol) refl n
   wrote_agrees false n = absurd (true≢false n)
 
-resend_agrees : (t timeout giveUp : ℕ) (s : State) (in_time room : Bool) → added_answer (port.resend in_time room t timeout giveUp s).answer ≡ false → Same (answers (resends (rust.all_rows t timeout giveUp s.protocol)) (rust.resent t timeout giveUp s.protocol)) (port.resend in_time room t timeout giveUp s)
-resend_agrees t timeout giveUp s true true n = refl
-resend_agrees t timeout giveUp s true false n = absurd (true≢false n)
-resend_agrees t timeout giveUp s false room n = absurd (true≢false n)
+resend_agrees : (t timeout give_up : ℕ) (s : State) (in_time room : Bool) → added_answer (port.resend in_time room t timeout give_up s).answer ≡ false → Same (answers (resends (rust.all_rows t timeout give_up s.protocol)) (rust.resent t timeout give_up s.protocol)) (port.resend in_time room t timeout give_up s)
+resend_agrees t timeout give_up s true true n = refl
+resend_agrees t timeout give_up s true false n = absurd (true≢false n)
+resend_agrees t timeout give_up s false room n = absurd (true≢false n)
 
 -- what it is to stay in the domain
 module _ (e : Call) (s : State) (h : in_domain e s ≡ true) where
@@ -240,7 +240,7 @@ replies (channel k) s n m g = find_agrees k s (key_made k) (port.has_place (is_s
 replies (next_bundle k l) s n m g = next_agrees k (length l) s (key_made k) (rust.has_key k s.protocol) refl n
 replies (prepare t k reliable hs) s n m g = send_agrees t k (is_set reliable) hs s (asked k reliable (length hs)) (on_time t s) (rust.has_key k s.protocol) refl n
 replies (acks_written k ns) s n m g = wrote_agrees k ns s (key_made k) n
-replies (take_resends t timeout giveUp l) s n m g = resend_agrees t timeout giveUp s (on_time t s) (leb (length (flat (rust.all_rows t timeout giveUp s.protocol))) (length l)) n
+replies (take_resends t timeout give_up l) s n m g = resend_agrees t timeout give_up s (on_time t s) (leb (length (flat (rust.all_rows t timeout give_up s.protocol))) (length l)) n
 replies (holds h) s n m g = refl
 replies last_accepted_prefix s n m g = refl
 replies reset_prefix_offset s n m g = refl

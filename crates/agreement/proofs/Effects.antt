@@ -138,7 +138,7 @@ stages_nothing (calls.channel k) s = refl
 stages_nothing (calls.next_bundle k l) s = refl
 stages_nothing (calls.prepare t k reliable hs) s = refl
 stages_nothing (calls.acks_written k ns) s = refl
-stages_nothing (calls.take_resends t timeout giveUp l) s = refl
+stages_nothing (calls.take_resends t timeout give_up l) s = refl
 stages_nothing (calls.holds h) s = refl
 stages_nothing calls.last_accepted_prefix s = refl
 stages_nothing calls.reset_prefix_offset s = refl
@@ -230,11 +230,11 @@ module _ (k : Key) (s : State) where
   wrote_regular ns true = wrote-left (take_written ns (port.queue_if (rust.has_key k s.protocol) k s))
   wrote_regular ns false = refusing out_of_range (untimed s) wrote_numbers refl
 
-resend_regular : (t timeout giveUp : ℕ) (s : State) (in_time room : Bool) → Regular (timed t s) (3 ∷ 12 ∷ []) (port.resend in_time room t timeout giveUp s)
+resend_regular : (t timeout give_up : ℕ) (s : State) (in_time room : Bool) → Regular (timed t s) (3 ∷ 12 ∷ []) (port.resend in_time room t timeout give_up s)
 unfolding has
-resend_regular t timeout giveUp s true true = granting _ _ (timed t s) (3 ∷ 12 ∷ []) refl
-resend_regular t timeout giveUp s true false = refusing list_too_short (timed t s) (3 ∷ 12 ∷ []) refl
-resend_regular t timeout giveUp s false room = refusing time_below (timed t s) (3 ∷ 12 ∷ []) refl
+resend_regular t timeout give_up s true true = granting _ _ (timed t s) (3 ∷ 12 ∷ []) refl
+resend_regular t timeout give_up s true false = refusing list_too_short (timed t s) (3 ∷ 12 ∷ []) refl
+resend_regular t timeout give_up s false room = refusing time_below (timed t s) (3 ∷ 12 ∷ []) refl
 
 module _ (t a : ℕ) (r : Record) (s : State) where
   abbrev out_numbers : List ℕ
@@ -279,7 +279,7 @@ regular (calls.channel k) s = find_regular k s (key_made k) (port.has_place (is_
 regular (calls.next_bundle k l) s = next_regular k (length l) s (key_made k) (rust.has_key k s.protocol)
 regular (calls.prepare t k reliable hs) s = send_regular t k (is_set reliable) hs s (asked k reliable (length hs)) (on_time t s) (rust.has_key k s.protocol)
 regular (calls.acks_written k ns) s = wrote_regular k s ns (key_made k)
-regular (calls.take_resends t timeout giveUp l) s = resend_regular t timeout giveUp s (on_time t s) (leb (length (flat (rust.all_rows t timeout giveUp s.protocol))) (length l))
+regular (calls.take_resends t timeout give_up l) s = resend_regular t timeout give_up s (on_time t s) (leb (length (flat (rust.all_rows t timeout give_up s.protocol))) (length l))
 regular (calls.holds h) s = granting (held (rust.holds h s.protocol)) s (untimed s) [] refl
 regular calls.last_accepted_prefix s = granting (prefix_is s.protocol.prefix) s (untimed s) [] refl
 regular calls.reset_prefix_offset s = granting done _ (untimed s) [] refl
@@ -442,9 +442,9 @@ send-latest t k reliable hs s true = at (fits (rust.prepared t k reliable hs s.p
     at false = refl
 send-latest t k reliable hs s false = refl
 
-resend-latest : (t timeout giveUp : ℕ) (s : State) (room : Bool) → (port.resend true room t timeout giveUp s).state.latest ≡ t
-resend-latest t timeout giveUp s true = refl
-resend-latest t timeout giveUp s false = refl
+resend-latest : (t timeout give_up : ℕ) (s : State) (room : Bool) → (port.resend true room t timeout give_up s).state.latest ≡ t
+resend-latest t timeout give_up s true = refl
+resend-latest t timeout give_up s false = refl
 
 -- ---- the table
 
@@ -487,7 +487,7 @@ of_calls =
       nothing = λ e s x h m. call_effect e s x h ∙ left-nothing (stages_of e s) x m ∙ stages_nothing e s;
       forwards_time = λ t a r s x h m. call_effect (calls.accept_out t a r) s x h ∙ at-time (4 ∷ 11 ∷ []) refl (out_stages t a r s) x m;
       sends_time = λ t k reliable hs s x h m. call_effect (calls.prepare t k reliable hs) s x h ∙ at-time (13 ∷ 11 ∷ []) refl (timed t s) x m;
-      resends_time = λ t timeout giveUp l s x h m. call_effect (calls.take_resends t timeout giveUp l) s x h ∙ at-time (12 ∷ []) refl (timed t s) x m;
+      resends_time = λ t timeout give_up l s x h m. call_effect (calls.take_resends t timeout give_up l) s x h ∙ at-time (12 ∷ []) refl (timed t s) x m;
       forwards_6 = λ t a r s h. call_effect (calls.accept_out t a r) s cumulative_off h;
     }
 
@@ -513,7 +513,7 @@ always =
       delivery_sets_time = λ t a rs s m o. rw (m, o) (play-latest t a rs (with_time t s));
       forward_sets_time = λ t a r s m o. rw (m, o) (out-latest t a r s (port.has_place (is_set r.on) a (index_of r) s.protocol));
       send_sets_time = λ t k reliable hs s m o. rw (m, o) (send-latest t k (is_set reliable) hs s (rust.has_key k s.protocol));
-      resends_set_time = λ t timeout giveUp l s o. rw o (resend-latest t timeout giveUp s (leb (length (flat (rust.all_rows t timeout giveUp s.protocol))) (length l)));
+      resends_set_time = λ t timeout give_up l s o. rw o (resend-latest t timeout give_up s (leb (length (flat (rust.all_rows t timeout give_up s.protocol))) (length l)));
       lent_lists = λ x l. refl;
       lent_lists_delivery = λ x n l. refl;
     }

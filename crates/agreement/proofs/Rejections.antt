@@ -8,11 +8,11 @@ use Rattle.lists.specs.Find.{has}
 use Rattle.seq.specs.Num.{sub}
 use Rattle.packet.specs.declared.Record.{Record}
 use Rattle.packet.specs.Data.{is_set, packet, index_of, version_of}
-use Rattle.model.specs.State.{OffChannel, OnChannel, Protocol, State, off_with, on_with, with_source, withPrefix, with_time, with_protocol, off_at, on_at}
+use Rattle.model.specs.State.{OffChannel, OnChannel, Protocol, State, off_with, on_with, with_source, with_prefix, with_time, with_protocol, off_at, on_at}
 use Rattle.model.specs.Refusals.{beyond_group, Stages, left}
 use Rattle.model.specs.Group.{Stored, done, beyond, add_in_packet, panics}
 use Rattle.model.specs.Reorder.{reorder, regroup}
-use Rattle.model.specs.Record.{Outcome, granted, rejected, far_fragment, bare_run, acked_on, acked_off, queued, observed_if, reliable_of, withReliable, run_of, reliable_in, stored_on, stored_off, loose_on, loose_off, last_given, rules_on, rules_off, current, on_record, cumulative_given, off_record}
+use Rattle.model.specs.Record.{Outcome, granted, rejected, far_fragment, bare_run, acked_on, acked_off, queued, observed_if, reliable_of, with_reliable, run_of, reliable_in, stored_on, stored_off, loose_on, loose_off, last_given, rules_on, rules_off, current, on_record, cumulative_given, off_record}
 use Rattle.model.specs.Rust as rust
 use Rattle.model.specs.Port.{record_channel, record_acks, record_stages, out_stages}
 use Rattle.agreement.specs.Effects.{among}
@@ -24,9 +24,9 @@ stages_if on a r s =
     record {
       nothing = s;
       time = s;
-      prefix = with_protocol (withPrefix r.prefix s.protocol) s;
-      channel = with_protocol (record_channel on a r (withPrefix r.prefix s.protocol)) s;
-      acks = with_protocol (record_acks on a r (withPrefix r.prefix s.protocol)) s;
+      prefix = with_protocol (with_prefix r.prefix s.protocol) s;
+      channel = with_protocol (record_channel on a r (with_prefix r.prefix s.protocol)) s;
+      acks = with_protocol (record_acks on a r (with_prefix r.prefix s.protocol)) s;
     }
 
 -- and those of forwarded out
@@ -58,7 +58,7 @@ own_out = 6 ∷ []
 module _ (t a : ℕ) (r : Record) (s : State) where
   -- the state that the channel is put back into
   abbrev base : Protocol
-  base = withPrefix r.prefix s.protocol
+  base = with_prefix r.prefix s.protocol
 
   -- an outcome on the record's channel leaves that
   abbrev OnLeaves : Outcome OnChannel → Type 0
@@ -96,7 +96,7 @@ module _ (t a : ℕ) (r : Record) (s : State) where
   on_reliable f c =
       on-run
       (panics (reorder (reliable_of c) (packet r)).queue)
-      (withReliable (regroup (reorder (reliable_of c) (packet r))) (with_source (observed_if f c.source r.number) (on_with (queued r c.off) c)))
+      (with_reliable (regroup (reorder (reliable_of c) (packet r))) (with_source (observed_if f c.source r.number) (on_with (queued r c.off) c)))
 
   -- ---- the record's channel, found or new, and with its acks applied
 

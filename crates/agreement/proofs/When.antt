@@ -14,13 +14,13 @@ use Rattle.packet.specs.declared.Record.{Record}
 use Rattle.packet.specs.declared.Packet.{Packet}
 use Rattle.packet.specs.declared.Key.{Key}
 use Rattle.packet.specs.Data.{Range, no_range, range, range_of, packet, is_set, index_of, version_of, key_index, well_made, key_made}
-use Rattle.model.specs.State.{Group, OffData, OffChannel, OnChannel, Protocol, State, off_with, on_with, with_source, withPrefix, with_time, off_at, on_at}
+use Rattle.model.specs.State.{Group, OffData, OffChannel, OnChannel, Protocol, State, off_with, on_with, with_source, with_prefix, with_time, off_at, on_at}
 use Rattle.model.specs.Refusals.{Refusal, out_of_range, time_below, channel_absent, table_full, old_version, cumulative_off, last_on_reliable, last_not_expected, last_off, beyond_group, over_limit, list_too_short}
 use Rattle.model.specs.Acks.{take_written}
 use Rattle.model.specs.Group.{Stored, beyond, span, is_first, stale, is_beyond, group_at, present, create, in_group, placed, add_in_packet, panics}
 use Rattle.model.specs.Group as group
 use Rattle.model.specs.Reorder.{reorder, regroup}
-use Rattle.model.specs.Record.{Outcome, acked_on, acked_off, queued, observed_if, reliable_of, withReliable, run_of, reliable_in, stored_on, stored_off, loose_on, loose_off, last_given, rules_on, rules_off, current, on_record, cumulative_given, off_record}
+use Rattle.model.specs.Record.{Outcome, acked_on, acked_off, queued, observed_if, reliable_of, with_reliable, run_of, reliable_in, stored_on, stored_off, loose_on, loose_off, last_given, rules_on, rules_off, current, on_record, cumulative_given, off_record}
 use Rattle.model.specs.Room.{fits}
 use Rattle.model.specs.Rust as rust
 use Rattle.model.specs.Calls as calls
@@ -102,7 +102,7 @@ module _ (t a : ℕ) (r : Record) (s : State) where
   p = s.protocol
 
   abbrev base : Protocol
-  base = withPrefix r.prefix p
+  base = with_prefix r.prefix p
 
   -- what a record is refused by, of its outcome
   abbrev judged : Outcome Protocol → Option Refusal
@@ -157,7 +157,7 @@ module _ (t a : ℕ) (r : Record) (s : State) where
   on_reliable f c =
       on-run
       (panics (reorder (reliable_of c) (packet r)).queue)
-      (withReliable (regroup (reorder (reliable_of c) (packet r))) (with_source (observed_if f c.source r.number) (on_with (queued r c.off) c)))
+      (with_reliable (regroup (reorder (reliable_of c) (packet r))) (with_source (observed_if f c.source r.number) (on_with (queued r c.off) c)))
 
   abbrev on_for : OnChannel
   on_for = on_at a (index_of r) (version_of r) p
@@ -332,11 +332,11 @@ module _ (k : Key) (s : State) where
   wrote-first ns true = wrote-left (take_written ns (queue_if (rust.has_key k s.protocol) k s))
   wrote-first ns false = refl
 
-resend-first : (t timeout giveUp : ℕ) (s : State) (in_time fit : Bool) → refusal_in (port.resend in_time fit t timeout giveUp s).answer ≡ first (row time_below (not in_time) ∷ row list_too_short (not fit) ∷ [])
+resend-first : (t timeout give_up : ℕ) (s : State) (in_time fit : Bool) → refusal_in (port.resend in_time fit t timeout give_up s).answer ≡ first (row time_below (not in_time) ∷ row list_too_short (not fit) ∷ [])
 unfolding first
-resend-first t timeout giveUp s true true = refl
-resend-first t timeout giveUp s true false = refl
-resend-first t timeout giveUp s false fit = refl
+resend-first t timeout give_up s true true = refl
+resend-first t timeout give_up s true false = refl
+resend-first t timeout give_up s false fit = refl
 
 call_first : (e : Call) (s : State) → refusal_in (reply e s).answer ≡ first (rows_of e s)
 unfolding first rows_of reply port.accept_s port.accept_out_s port.channel_s port.next_bundle_s port.prepare_s port.acks_written_s port.take_resends_s
@@ -346,7 +346,7 @@ call_first (calls.channel k) s = find_first k s (key_made k) (has_place (is_set 
 call_first (calls.next_bundle k l) s = next-first k (length l) s (key_made k) (rust.has_key k s.protocol)
 call_first (calls.prepare t k reliable hs) s = send-first t k (is_set reliable) hs s (asked k reliable (length hs)) (on_time t s) (rust.has_key k s.protocol)
 call_first (calls.acks_written k ns) s = wrote-first k s ns (key_made k)
-call_first (calls.take_resends t timeout giveUp l) s = resend-first t timeout giveUp s (on_time t s) (leb (length (flat (rust.all_rows t timeout giveUp s.protocol))) (length l))
+call_first (calls.take_resends t timeout give_up l) s = resend-first t timeout give_up s (on_time t s) (leb (length (flat (rust.all_rows t timeout give_up s.protocol))) (length l))
 call_first (calls.holds h) s = refl
 call_first calls.last_accepted_prefix s = refl
 call_first calls.reset_prefix_offset s = refl

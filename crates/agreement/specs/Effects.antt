@@ -5,7 +5,7 @@ use Rattle.lists.specs.Find.{has}
 use Rattle.packet.specs.declared.Record.{Record}
 use Rattle.packet.specs.declared.Key.{Key}
 use Rattle.packet.specs.Data.{is_set, well_made}
-use Rattle.model.specs.State.{State, withPrefix, with_time, with_protocol}
+use Rattle.model.specs.State.{State, with_prefix, with_time, with_protocol}
 use Rattle.model.specs.Refusals.{Refusal, number, old_version, cumulative_off, Stages, left}
 use Rattle.model.specs.Calls.{Call, accept, accept_out, channel, next_bundle, prepare, acks_written, take_resends, holds, last_accepted_prefix, reset_prefix_offset, transfer_prefix_offset, refused, undelivered, lent}
 use Rattle.model.specs.Port.{untimed, timed, refuses, record_channel, record_acks, record_stages, out_stages, record_step, play, delivery_made, asked, on_time, reply, reply_if}
@@ -22,7 +22,7 @@ stages_of (channel k) s = untimed s
 stages_of (next_bundle k l) s = untimed s
 stages_of (prepare t k reliable hs) s = timed t s
 stages_of (acks_written k ns) s = untimed s
-stages_of (take_resends t timeout giveUp l) s = timed t s
+stages_of (take_resends t timeout give_up l) s = timed t s
 stages_of (holds h) s = untimed s
 stages_of last_accepted_prefix s = untimed s
 stages_of reset_prefix_offset s = untimed s
@@ -36,7 +36,7 @@ numbers_of (channel k) = 2 ∷ 4 ∷ []
 numbers_of (next_bundle k l) = 2 ∷ 13 ∷ 12 ∷ []
 numbers_of (prepare t k reliable hs) = 2 ∷ 3 ∷ 13 ∷ 11 ∷ []
 numbers_of (acks_written k ns) = 2 ∷ 13 ∷ []
-numbers_of (take_resends t timeout giveUp l) = 3 ∷ 12 ∷ []
+numbers_of (take_resends t timeout give_up l) = 3 ∷ 12 ∷ []
 numbers_of (holds h) = []
 numbers_of last_accepted_prefix = []
 numbers_of reset_prefix_offset = []
@@ -71,7 +71,7 @@ pub record CallEffects : Type 0 where
   -- 13, 4, 10, 11, 12 of a timed call: time
   pub forwards_time : (t a : ℕ) (r : Record) (s : State) (x : Refusal) → Refused (accept_out t a r) s x → among (4 ∷ 11 ∷ []) x ≡ true → (reply (accept_out t a r) s).state ≡ with_time t s
   pub sends_time : (t : ℕ) (k : Key) (reliable : ℕ) (hs : List ℕ) (s : State) (x : Refusal) → Refused (prepare t k reliable hs) s x → among (13 ∷ 11 ∷ []) x ≡ true → (reply (prepare t k reliable hs) s).state ≡ with_time t s
-  pub resends_time : (t timeout giveUp : ℕ) (l : List ℕ) (s : State) (x : Refusal) → Refused (take_resends t timeout giveUp l) s x → among (12 ∷ []) x ≡ true → (reply (take_resends t timeout giveUp l) s).state ≡ with_time t s
+  pub resends_time : (t timeout give_up : ℕ) (l : List ℕ) (s : State) (x : Refusal) → Refused (take_resends t timeout give_up l) s x → among (12 ∷ []) x ≡ true → (reply (take_resends t timeout give_up l) s).state ≡ with_time t s
   -- 6 of forwarded out: the time, and the channel found or made; no prefix
   pub forwards_6 : (t a : ℕ) (r : Record) (s : State) → Refused (accept_out t a r) s cumulative_off → (reply (accept_out t a r) s).state ≡ with_protocol (record_channel (is_set r.on) a r s.protocol) (with_time t s)
 
@@ -92,11 +92,11 @@ pub record RecordEffects : Type 0 where
   -- a record: 2, 4, 10 and 11 leave what the earlier records left
   pub record_nothing : (t a : ℕ) (r : Record) (s : State) (x : Refusal) → RecordRefused t a r s x → among (2 ∷ 4 ∷ 10 ∷ 11 ∷ []) x ≡ true → (record_step t a r s).state ≡ s
   -- 5: the prefix
-  pub record_5 : (t a : ℕ) (r : Record) (s : State) → RecordRefused t a r s old_version → (record_step t a r s).state ≡ with_protocol (withPrefix r.prefix s.protocol) s
+  pub record_5 : (t a : ℕ) (r : Record) (s : State) → RecordRefused t a r s old_version → (record_step t a r s).state ≡ with_protocol (with_prefix r.prefix s.protocol) s
   -- 6: the prefix, and the channel found or made
-  pub record_6 : (t a : ℕ) (r : Record) (s : State) → RecordRefused t a r s cumulative_off → (record_step t a r s).state ≡ with_protocol (record_channel (is_set r.on) a r (withPrefix r.prefix s.protocol)) s
+  pub record_6 : (t a : ℕ) (r : Record) (s : State) → RecordRefused t a r s cumulative_off → (record_step t a r s).state ≡ with_protocol (record_channel (is_set r.on) a r (with_prefix r.prefix s.protocol)) s
   -- 7, 8, 9: the prefix, and the channel with the acks applied
-  pub record_7_8_9 : (t a : ℕ) (r : Record) (s : State) (x : Refusal) → RecordRefused t a r s x → among (7 ∷ 8 ∷ 9 ∷ []) x ≡ true → (record_step t a r s).state ≡ with_protocol (record_acks (is_set r.on) a r (withPrefix r.prefix s.protocol)) s
+  pub record_7_8_9 : (t a : ℕ) (r : Record) (s : State) (x : Refusal) → RecordRefused t a r s x → among (7 ∷ 8 ∷ 9 ∷ []) x ≡ true → (record_step t a r s).state ≡ with_protocol (record_acks (is_set r.on) a r (with_prefix r.prefix s.protocol)) s
 
 -- whatever is answered: the time, and lent lists
 pub record AlwaysEffects : Type 0 where
@@ -104,7 +104,7 @@ pub record AlwaysEffects : Type 0 where
   pub delivery_sets_time : (t a : ℕ) (rs : List Record) (s : State) → delivery_made rs ≡ true → on_time t s ≡ true → (reply (accept t a rs) s).state.latest ≡ t
   pub forward_sets_time : (t a : ℕ) (r : Record) (s : State) → well_made r ≡ true → on_time t s ≡ true → (reply (accept_out t a r) s).state.latest ≡ t
   pub send_sets_time : (t : ℕ) (k : Key) (reliable : ℕ) (hs : List ℕ) (s : State) → asked k reliable (length hs) ≡ true → on_time t s ≡ true → (reply (prepare t k reliable hs) s).state.latest ≡ t
-  pub resends_set_time : (t timeout giveUp : ℕ) (l : List ℕ) (s : State) → on_time t s ≡ true → (reply (take_resends t timeout giveUp l) s).state.latest ≡ t
+  pub resends_set_time : (t timeout give_up : ℕ) (l : List ℕ) (s : State) → on_time t s ≡ true → (reply (take_resends t timeout give_up l) s).state.latest ≡ t
   -- "A refused call writes nothing to a lent list"
   pub lent_lists : (x : Refusal) (l : List ℕ) → lent (refused x) l ≡ l
   pub lent_lists_delivery : (x : Refusal) (n : ℕ) (l : List ℕ) → lent (undelivered x n) l ≡ l

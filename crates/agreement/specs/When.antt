@@ -146,8 +146,8 @@ written_rows k ns s =
     ∷ []
 
 abbrev pub resend_rows : ℕ → ℕ → ℕ → ℕ → State → List Row
-resend_rows t timeout giveUp places s =
-    row time_below (not (on_time t s)) ∷ row list_too_short (not (leb (length (flat (rust.all_rows t timeout giveUp s.protocol))) places)) ∷ []
+resend_rows t timeout give_up places s =
+    row time_below (not (on_time t s)) ∷ row list_too_short (not (leb (length (flat (rust.all_rows t timeout give_up s.protocol))) places)) ∷ []
 
 unfoldable pub rows_of : Call → State → List Row
 rows_of (accept t a rs) s = delivery_rows t a rs s
@@ -156,7 +156,7 @@ rows_of (channel k) s = find_rows k s
 rows_of (next_bundle k l) s = next_rows k (length l) s
 rows_of (prepare t k reliable hs) s = send_rows t k reliable hs s
 rows_of (acks_written k ns) s = written_rows k ns s
-rows_of (take_resends t timeout giveUp l) s = resend_rows t timeout giveUp (length l) s
+rows_of (take_resends t timeout give_up l) s = resend_rows t timeout give_up (length l) s
 rows_of (holds h) s = []
 rows_of last_accepted_prefix s = []
 rows_of reset_prefix_offset s = []

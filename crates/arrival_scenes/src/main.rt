@@ -9,7 +9,7 @@ use bundles::Bundles;
 use packet::Packet;
 use reorder::Reordered;
 use std::io;
-use std::io::{BufWriter, Write};
+use std::io::Write;
 use waiting::Waiting;
 
 // ---- what a scene does
@@ -358,7 +358,7 @@ fn tested<W: Write>(out: &mut W) -> io::Result<()> {
 }
 
 fn main(rt: HostRuntime) -> io::Result<()> {
-    let mut out = BufWriter::new(rt.alloc(), rt.stdout())?;
+    let mut out = rt.stdout();
     in_order(&mut out)?;
     buffered(&mut out)?;
     half(&mut out)?;

@@ -100,10 +100,10 @@ unfoldable pub wrote_acks : Table → Key → Names → Done
 wrote_acks t k n = done_of (called (acks_written k (names_of n)) t)
 
 unfoldable pub resends_of : Table → ℕ → ℕ → ℕ → List ℕ → Resent
-resends_of t time timeout giveUp l = resent_of (called (take_resends time timeout giveUp l) t)
+resends_of t time timeout give_up l = resent_of (called (take_resends time timeout give_up l) t)
 
 unfoldable pub resends_lent : Table → ℕ → ℕ → ℕ → List ℕ → List ℕ
-resends_lent t time timeout giveUp l = lent (called (take_resends time timeout giveUp l) t).answer l
+resends_lent t time timeout give_up l = lent (called (take_resends time timeout give_up l) t).answer l
 
 unfoldable pub holds_of : Table → ℕ → Held
 holds_of t h = held_of (called (holds h) t)

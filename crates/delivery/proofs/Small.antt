@@ -17,7 +17,7 @@ use Rattle.table.specs.declared.Table.{Table}
 use Rattle.table.specs.Keys.{is_address, is_key, keys_of}
 use Rattle.delivery.specs.declared.Aim.{Aim}
 use Rattle.delivery.specs.declared.Beside.{Beside}
-use Rattle.delivery.specs.Delivery.{placed, aimed, opened_on, opened_off, in_use, with_on_key, with_off_key, beside_of, withOn, with_off}
+use Rattle.delivery.specs.Delivery.{placed, aimed, opened_on, opened_off, in_use, with_on_key, with_off_key, beside_of, with_on, with_off}
 
 -- ---- the place of a record's channel
 
@@ -82,7 +82,7 @@ pub of_done : (t : Table) (k : Keys) → k ≡ keys_of t → ◌≡◌ {A = Besi
 of_done t k e = λ j. record { offcount = t.offcount; oncount = t.oncount; prefix = t.prefix; keys = e j }
 
 pub with_on-done : (s : Beside) (at a i p n : ℕ) (new : Bool) → n ≡ in_use s.oncount new
-    → ◌≡◌ {A = Beside} (record { offcount = s.offcount; oncount = n; prefix = p; keys = with_on_key s.keys at a i }) (withOn s at a i new p)
+    → ◌≡◌ {A = Beside} (record { offcount = s.offcount; oncount = n; prefix = p; keys = with_on_key s.keys at a i }) (with_on s at a i new p)
 with_on-done s at a i p n new e = λ j. record { offcount = s.offcount; oncount = e j; prefix = p; keys = with_on_key s.keys at a i }
 
 pub with_off-done : (s : Beside) (at a p n : ℕ) (new : Bool) → n ≡ in_use s.offcount new

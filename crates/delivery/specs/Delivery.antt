@@ -52,8 +52,8 @@ abbrev pub beside_of : Table → Beside
 beside_of t = record { offcount = t.offcount; oncount = t.oncount; prefix = t.prefix; keys = keys_of t }
 
 -- after a record whose channel is stored at that place: its address, its index, whether it is new, and the record's prefix
-abbrev pub withOn : Beside → ℕ → ℕ → ℕ → Bool → ℕ → Beside
-withOn s at a i new p = record { offcount = s.offcount; oncount = in_use s.oncount new; prefix = p; keys = with_on_key s.keys at a i }
+abbrev pub with_on : Beside → ℕ → ℕ → ℕ → Bool → ℕ → Beside
+with_on s at a i new p = record { offcount = s.offcount; oncount = in_use s.oncount new; prefix = p; keys = with_on_key s.keys at a i }
 
 abbrev pub with_off : Beside → ℕ → ℕ → Bool → ℕ → Beside
 with_off s at a new p = record { offcount = in_use s.offcount new; oncount = s.oncount; prefix = p; keys = with_off_key s.keys at a }

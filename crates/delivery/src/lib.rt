@@ -127,7 +127,7 @@ impl Beside {
     pub fn with_on(self, at: usize, address: u32, index: u32, new: bool, prefix: u32) -> Beside
         requires at_bound { at < 8 }
         requires oncount_bound { self.oncount ≤ 8 }
-        ensures { result ≡ Spec.withOn self at address index new prefix }
+        ensures { result ≡ Spec.with_on self at address index new prefix }
     {
         let mut keys = self.keys;
         keys.ons[at] = OnKey { address, index };

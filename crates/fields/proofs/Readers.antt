@@ -19,7 +19,7 @@ use Rattle.words.specs.Text.{bytes}
 use Rattle.words.specs.Words.{begins, taken, number_of, most32, worded, field_of, pair_of}
 use Rattle.words.proofs.Words.{part, part-is, begins-length, word_within, word_no, word_yes, Taken, field_facts, field_within, pair-within}
 use Rattle.fields.specs.declared.Fields.{Fields}
-use Rattle.packet.specs.Given.{withPrefix, withAcks, withAck}
+use Rattle.packet.specs.Given.{with_prefix, with_acks, with_ack}
 use Rattle.fields.specs.Readers.{Reader, unread, ended, flag, number, pair, one_more, repeated_n, repeated, from_lrs, from_ack, from_on, fields_of}
 
 -- ---- the fields of a record
@@ -73,12 +73,12 @@ module _ (w : List ℕ) (next : Reader) (line : List ℕ) (r : Record) (res : Fi
 
 -- ---- the acks
 
-pub ack_room : (r : Record) (x : ℕ) → r.ackcount < 8 → withAcks (r.ackcount + 1) (set r.acks r.ackcount x) r ≡ withAck x r
-unfolding withAck
+pub ack_room : (r : Record) (x : ℕ) → r.ackcount < 8 → with_acks (r.ackcount + 1) (set r.acks r.ackcount x) r ≡ with_ack x r
+unfolding with_ack
 ack_room r x h = rw (lt-ltb r.ackcount 8 h)
 
-pub ack_full : (r : Record) (x : ℕ) → 8 ≤ r.ackcount → withAcks 9 r.acks r ≡ withAck x r
-unfolding withAck
+pub ack_full : (r : Record) (x : ℕ) → 8 ≤ r.ackcount → with_acks 9 r.acks r ≡ with_ack x r
+unfolding with_ack
 ack_full r x h = rw (le-ltb r.ackcount 8 h)
 
 field_empty : (w line : List ℕ) → 0 < length w → length line ≤ 0 → field_of w line ≡ Absent
@@ -141,13 +141,13 @@ pub record Repeating (line rest : List ℕ) (r s : Record) : Type 0 where
 pub ack_start : (line : List ℕ) (r : Record) → Repeating line line r r
 ack_start line r = record { same = refl }
 
-pub ack_again : (line rest : List ℕ) (r s t : Record) (f : Field) (x n : ℕ) → Repeating line rest r s → f ≡ field_of (bytes " ack ") rest → f ≡ Given x n → t ≡ withAck x s → Repeating line (part n rest) r t
+pub ack_again : (line rest : List ℕ) (r s t : Record) (f : Field) (x n : ℕ) → Repeating line rest r s → f ≡ field_of (bytes " ack ") rest → f ≡ Given x n → t ≡ with_ack x s → Repeating line (part n rest) r t
 ack_again line rest r s t f x n h q e a =
     record {
       same =
           ap (λ (u : Record). from_ack (part n rest) u) a
-          ∙ ap (λ (l : List ℕ). from_ack l (withAck x s)) (part-is n rest)
-          ∙ sym (repeated-given (bytes " ack ") withAck from_lrs (lit< tt) rest s x n (sym q ∙ e))
+          ∙ ap (λ (l : List ℕ). from_ack l (with_ack x s)) (part-is n rest)
+          ∙ sym (repeated-given (bytes " ack ") with_ack from_lrs (lit< tt) rest s x n (sym q ∙ e))
           ∙ h.same;
     }
 
@@ -157,15 +157,15 @@ ack_less rest f x n q e =
     omega (arith, ap length (part-is n rest), length-drop n rest, t.some, t.within)
 
 pub ack_done : (line rest : List ℕ) (r s : Record) (f : Field) (res : Fields) → Repeating line rest r s → f ≡ field_of (bytes " ack ") rest → f ≡ Absent → res ≡ from_lrs rest s → res ≡ from_ack line r
-ack_done line rest r s f res h q e a = a ∙ sym (repeated_absent (bytes " ack ") withAck from_lrs (lit< tt) rest s (sym q ∙ e)) ∙ h.same
+ack_done line rest r s f res h q e a = a ∙ sym (repeated_absent (bytes " ack ") with_ack from_lrs (lit< tt) rest s (sym q ∙ e)) ∙ h.same
 
 pub ack_unread : (line rest : List ℕ) (r s : Record) (f : Field) (res : Fields) → Repeating line rest r s → f ≡ field_of (bytes " ack ") rest → f ≡ Unreadable → res ≡ unread → res ≡ from_ack line r
-ack_unread line rest r s f res h q e a = a ∙ sym (repeated-unread (bytes " ack ") withAck from_lrs (lit< tt) rest s (sym q ∙ e)) ∙ h.same
+ack_unread line rest r s f res h q e a = a ∙ sym (repeated-unread (bytes " ack ") with_ack from_lrs (lit< tt) rest s (sym q ∙ e)) ∙ h.same
 
 -- ---- all of them
 
-pub prefix-on : (line : List ℕ) (p : ℕ) (x : Record) (f : Fields) → x ≡ no_record → f ≡ from_on line (withPrefix p x) → f ≡ fields_of p line
+pub prefix-on : (line : List ℕ) (p : ℕ) (x : Record) (f : Fields) → x ≡ no_record → f ≡ from_on line (with_prefix p x) → f ≡ fields_of p line
 unfolding fields_of
-prefix-on line p x f e h = h ∙ ap (λ (u : Record). from_on line (withPrefix p u)) e
+prefix-on line p x f e h = h ∙ ap (λ (u : Record). from_on line (with_prefix p u)) e
 
 pub ruleset readers = (word_within, field_within, pair-within, unread-is, ended_yes, ended_no, flag_absent, flag-given, number-given, number_absent, number-unread, both_given, both_absent, both_unread, ack_room, ack_full, ack_start, ack_again, ack_less, ack_done, ack_unread, prefix-on, rules)

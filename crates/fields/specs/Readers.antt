@@ -10,7 +10,7 @@ use Rattle.words.specs.declared.Pair.TheVariants.{Both, Neither, Broken}
 use Rattle.words.specs.Text.{bytes}
 use Rattle.words.specs.Words.{begins, field_of, pair_of}
 use Rattle.fields.specs.declared.Fields.{Fields}
-use Rattle.packet.specs.Given.{withPrefix, withOn, withIndex, withReliable, with_number, withRange, withCumulative, withAck, with_last, withHandle}
+use Rattle.packet.specs.Given.{with_prefix, with_on, with_index, with_reliable, with_number, with_range, with_cumulative, with_ack, with_last, with_handle}
 
 abbrev pub Reader : Type 0
 Reader = List ℕ → Record → Fields
@@ -59,32 +59,32 @@ repeated w given next line r = repeated_n (length line) w given next line r
 
 -- "then in this order if present", the last one first
 abbrev pub from_pkt : Reader
-from_pkt = number (bytes " pkt ") withHandle ended
+from_pkt = number (bytes " pkt ") with_handle ended
 
 abbrev pub from_lrs : Reader
 from_lrs = number (bytes " lrs ") with_last from_pkt
 
 abbrev pub from_ack : Reader
-from_ack = repeated (bytes " ack ") withAck from_lrs
+from_ack = repeated (bytes " ack ") with_ack from_lrs
 
 abbrev pub from_cum : Reader
-from_cum = number (bytes " cum ") withCumulative from_ack
+from_cum = number (bytes " cum ") with_cumulative from_ack
 
 abbrev pub from_rng : Reader
-from_rng = pair (bytes " rng ") withRange from_cum
+from_rng = pair (bytes " rng ") with_range from_cum
 
 abbrev pub from_seq : Reader
 from_seq = number (bytes " seq ") with_number from_rng
 
 abbrev pub from_rel : Reader
-from_rel = flag (bytes " rel") withReliable from_seq
+from_rel = flag (bytes " rel") with_reliable from_seq
 
 abbrev pub from_idx : Reader
-from_idx = pair (bytes " idx ") withIndex from_rel
+from_idx = pair (bytes " idx ") with_index from_rel
 
 abbrev pub from_on : Reader
-from_on = flag (bytes " on") withOn from_idx
+from_on = flag (bytes " on") with_on from_idx
 
 -- the fields of an `in` or a `pig` whose prefix is p
 unfoldable pub fields_of : ℕ → List ℕ → Fields
-fields_of p line = from_on line (withPrefix p no_record)
+fields_of p line = from_on line (with_prefix p no_record)

@@ -66,7 +66,7 @@ fn from_lrs(line: &[u8], r: Record) -> Fields
 
 // A ninth ack makes the record malformed: the count stays at 9, and the eight that are there stay.
 fn with_ack(r: Record, x: u32) -> Record
-    ensures { result ≡ Given.withAck x r }
+    ensures { result ≡ Given.with_ack x r }
 {
     let mut s = r;
     let k = r.ackcount;

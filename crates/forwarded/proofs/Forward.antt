@@ -107,14 +107,14 @@ off-forward-refused c r t w h =
 
 module _ (c : OffChannel) (r : Record) (t : ℕ) (b : Bool) (w : WfOff c) (n : r.hascumulative ≡ 1 → ⊥) (e : b ≡ leb (length (forwarded_out t r (Out.abs c.out))) 32) where
   abbrev off-after : model.OffChannel
-  off-after = model.off_with (model.withAcks (forwarded_acks r (Acks.abs c.acks)) (model.with_out (forwarded_out t r (Out.abs c.out)) (abs_off c).off)) (abs_off c)
+  off-after = model.off_with (model.with_acks (forwarded_acks r (Acks.abs c.acks)) (model.with_out (forwarded_out t r (Out.abs c.out)) (abs_off c).off)) (abs_off c)
 
   -- without a cumulative ack the ack queue is as on-channel
   off-same : forward_off (is_set r.hascumulative) t r (abs_off c) ≡ granted off-after
   off-same =
       let s : is_set r.hascumulative ≡ false = ne_eqb r.hascumulative 1 n in
       ap (λ (x : Bool). forward_off x t r (abs_off c)) s
-      ∙ sym (ap (λ (x : Bool). granted (model.off_with (model.withAcks (ack_in_singles (single_acks r) (cumulated_in x r.cumulative (Acks.abs c.acks))) (model.with_out (forwarded_out t r (Out.abs c.out)) (abs_off c).off)) (abs_off c))) s)
+      ∙ sym (ap (λ (x : Bool). granted (model.off_with (model.with_acks (ack_in_singles (single_acks r) (cumulated_in x r.cumulative (Acks.abs c.acks))) (model.with_out (forwarded_out t r (Out.abs c.out)) (abs_off c).off)) (abs_off c))) s)
 
   off-forward-is : step_off (forward_off (is_set r.hascumulative) t r (abs_off c)) c ≡ room_off b off-after c
   unfolding step_off

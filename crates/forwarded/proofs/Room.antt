@@ -29,15 +29,15 @@ forwarded_le r qs = at (is_set r.hascumulative)
     at true = omega (arith, length-ack_in_singles (single_acks r) (cumulated_in true r.cumulative qs), length-keep (not_before r.cumulative) qs)
     at false = length-ack_in_singles (single_acks r) qs
 
-queued : (d : model.OffData) (qs : List ℕ) → DataFits d → length qs ≤ 64 → DataFits (model.withAcks qs d)
+queued : (d : model.OffData) (qs : List ℕ) → DataFits d → length qs ≤ 64 → DataFits (model.with_acks qs d)
 queued d qs f q = record { out = f.out; acks = q; groups = f.groups; places = f.places; bundles = f.bundles; handles = f.handles }
 
 module _ (c : OnChannel) (w : WfOn c) (es : List OutEntry) (qs : List ℕ) (q : length qs ≤ 64) where
-  pub forward-room-on : fits_on (model.on_with (model.withAcks qs (model.with_out es (abs_on c).off)) (abs_on c)) ≡ leb (length es) 32
+  pub forward-room-on : fits_on (model.on_with (model.with_acks qs (model.with_out es (abs_on c).off)) (abs_on c)) ≡ leb (length es) 32
   forward-room-on =
       let f = facts_on c w in
-      out-room-on (model.withAcks qs (abs_on c).off) (abs_on c) es (queued (abs_on c).off qs f.common q) f
+      out-room-on (model.with_acks qs (abs_on c).off) (abs_on c) es (queued (abs_on c).off qs f.common q) f
 
 module _ (c : OffChannel) (w : WfOff c) (es : List OutEntry) (qs : List ℕ) (q : length qs ≤ 64) where
-  pub forward-room-off : fits_off (model.off_with (model.withAcks qs (model.with_out es (abs_off c).off)) (abs_off c)) ≡ leb (length es) 32
-  forward-room-off = out-room (model.withAcks qs (abs_off c).off) es (queued (abs_off c).off qs (facts_off c w) q)
+  pub forward-room-off : fits_off (model.off_with (model.with_acks qs (model.with_out es (abs_off c).off)) (abs_off c)) ≡ leb (length es) 32
+  forward-room-off = out-room (model.with_acks qs (abs_off c).off) es (queued (abs_off c).off qs (facts_off c w) q)

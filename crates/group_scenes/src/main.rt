@@ -9,7 +9,7 @@ use fragments::{Fragments, Groups};
 use group_rule::Added;
 use packet::Packet;
 use std::io;
-use std::io::{BufWriter, Write};
+use std::io::Write;
 
 // ---- what a scene does
 
@@ -382,7 +382,7 @@ fn tested<W: Write>(out: &mut W) -> io::Result<()> {
 }
 
 fn main(rt: HostRuntime) -> io::Result<()> {
-    let mut out = BufWriter::new(rt.alloc(), rt.stdout())?;
+    let mut out = rt.stdout();
     stored(&mut out)?;
     wrapped(&mut out)?;
     again(&mut out)?;

@@ -17,7 +17,7 @@ use Rattle.packet.specs.Data.{is_set, is_flag, given, flagged, index_good, acks_
 use Rattle.model.specs.State.{OffData, OffChannel, OnChannel, new_on, off_with, on_with, with_source}
 use Rattle.model.specs.Group.{Stored, done, beyond, add_in_packet, panics}
 use Rattle.model.specs.Reorder.{Reliable, reorder, regroup}
-use Rattle.model.specs.Record.{Outcome, granted, rejected, far_fragment, bare_run, acked_on, acked_off, queued, observed_if, reliable_of, withReliable, run_of, reliable_in, stored_on, stored_off, loose_on, loose_off, last_given, rules_on, rules_off, current, on_record, cumulative_given, off_record}
+use Rattle.model.specs.Record.{Outcome, granted, rejected, far_fragment, bare_run, acked_on, acked_off, queued, observed_if, reliable_of, with_reliable, run_of, reliable_in, stored_on, stored_off, loose_on, loose_off, last_given, rules_on, rules_off, current, on_record, cumulative_given, off_record}
 use Rattle.model.specs.Room.{fits_on}
 use Rattle.model.specs.Rust.{forwarded, forward_off, forward_on, first_version}
 use Rattle.model.specs.Wellformed.{packet_good, rising, consecutive, key_good, data_good, on_good}
@@ -136,8 +136,8 @@ observed-legal true next n h = at (cmp (add n 1) next)
 observed-legal false next n h = h
 
 module _ (t : ℕ) (r : Record) (made : well_made r ≡ true) where
-  with_reliable : (l : Reliable) (c : OnChannel) → Side l → OnGood t c → OnGood t (withReliable l c)
-  with_reliable l c w g =
+  with_reliable_lem : (l : Reliable) (c : OnChannel) → Side l → OnGood t c → OnGood t (with_reliable l c)
+  with_reliable_lem l c w g =
       record {
         key = g.key;
         common = data_bundles t c.off g.common l.bundles;
@@ -156,7 +156,7 @@ module _ (t : ℕ) (r : Record) (made : well_made r ≡ true) where
       let d : OnChannel = with_source (observed_if forwarding c.source r.number) (on_with (queued r c.off) c) in
       let w : Side l = side_reorder (reliable_of c) (packet r) (packet-good r made) (omega (arith, f.buffer, f.queue)) g.side in
       let h : OnGood t d = on-source t (observed_if forwarding c.source r.number) (on_with (queued r c.off) c) (observed-legal forwarding c.source r.number g.source) (on_with_lem t (queued r c.off) c (queued-good t r c.off (number-legal r made) g.common) g) in
-      run_of_lem (panics l.queue) (withReliable (regroup l) d) (with_reliable (regroup l) d (side_regroup l w) h)
+      run_of_lem (panics l.queue) (with_reliable (regroup l) d) (with_reliable_lem (regroup l) d (side_regroup l w) h)
 
   loose_on_lem : (c : OnChannel) → OnGood t c → Leaves (OnGood t) (loose_on t r c)
   unfolding loose_on

@@ -20,7 +20,7 @@ use Rattle.packet.specs.declared.OutEntry.{OutEntry}
 use Rattle.packet.specs.declared.Packet.{Packet}
 use Rattle.packet.specs.declared.Record.{Record}
 use Rattle.packet.specs.Data.{is_set, is_flag, no_entry, Range, no_range, range, range_of, single_acks}
-use Rattle.model.specs.State.{Group, OffData, no_data, with_out, withAcks, with_groups, with_bundles}
+use Rattle.model.specs.State.{Group, OffData, no_data, with_out, with_acks, with_groups, with_bundles}
 use Rattle.model.specs.Acks.{is_greater, ack_cumulative, has_number, ack_singles, search, entry_number, forwarded_entry, insert_out, not_before, is, ack_in_singles, take_written}
 use Rattle.model.specs.Group.{span, is_first, new_group, full, in_places, store, stale, Stored, done, beyond, stored_in, present, create, is_beyond, in_group, group_at, placed, add_in_packet}
 use Rattle.model.specs.Record.{cumulated, acked_on, acked_off, queued}
@@ -77,7 +77,7 @@ module _ (t : ℕ) (d : OffData) (g : DataGood t d) where
   pub data_out : (l : List OutEntry) → all_b (entry_good t) l ≡ true → DataGood t (with_out l d)
   data_out l h = record { out = h; acks = g.acks; groups = g.groups; apart = g.apart }
 
-  pub data_acks : (l : List ℕ) → all_b legal l ≡ true → DataGood t (withAcks l d)
+  pub data_acks : (l : List ℕ) → all_b legal l ≡ true → DataGood t (with_acks l d)
   data_acks l h = record { out = g.out; acks = h; groups = g.groups; apart = g.apart }
 
   pub data_bundles : (l : List (List ℕ)) → DataGood t (with_bundles l d)
@@ -244,6 +244,6 @@ mark-good t timeout e h = at (due t timeout e) (entry_facts t e h)
     at true g = entry_test t (mark_if true t e) (record { number = g.number; flag = g.flag; bare = g.bare; time = omega (arith, g.time, g.sent); sent = omega arith })
     at false g = h
 
-pub resent-good : (t timeout giveUp : ℕ) (d : OffData) → DataGood t d → DataGood t (resent_data t timeout giveUp d)
-resent-good t timeout giveUp d g =
-    data_out t d g (map (mark t timeout) (kept t giveUp d)) (all_b-map_so (entry_good t) (entry_good t) (mark t timeout) (mark-good t timeout) (kept t giveUp d) (all_b-keep (entry_good t) _ d.out g.out))
+pub resent-good : (t timeout give_up : ℕ) (d : OffData) → DataGood t d → DataGood t (resent_data t timeout give_up d)
+resent-good t timeout give_up d g =
+    data_out t d g (map (mark t timeout) (kept t give_up d)) (all_b-map_so (entry_good t) (entry_good t) (mark t timeout) (mark-good t timeout) (kept t give_up d) (all_b-keep (entry_good t) _ d.out g.out))

@@ -15,7 +15,7 @@ use Rattle.seq.specs.Num.{legal}
 use Rattle.packet.specs.declared.Record.{Record}
 use Rattle.packet.specs.declared.Key.{Key}
 use Rattle.packet.specs.Data.{is_set, is_flag, index_of, key_index, well_made, key_made}
-use Rattle.model.specs.State.{Protocol, State, new, withAcks, with_bundles, with_time, with_protocol}
+use Rattle.model.specs.State.{Protocol, State, new, with_acks, with_bundles, with_time, with_protocol}
 use Rattle.model.specs.Acks.{take_written}
 use Rattle.model.specs.Record.{Outcome, granted, rejected, far_fragment, bare_run}
 use Rattle.model.specs.Room.{fits}
@@ -163,7 +163,7 @@ module _ (s : State) (h : Sound s) where
       let f : DataFits d = data_of_fits s.latest k m p w in
       let l : all_b legal qs ≡ true = rw e at (taken-legal ns d.acks g.acks) in
       let n : length qs ≤ length d.acks = rw e at (taken-short (length d.acks) ns d.acks (omega arith)) in
-      rw q (well_test (with_protocol (rust.put_data k (withAcks qs d) p) s) (well_put s.latest k m p (withAcks qs d) w q (data_acks s.latest d g qs l) (acks-fits d f qs n)))
+      rw q (well_test (with_protocol (rust.put_data k (with_acks qs d) p) s) (well_put s.latest k m p (with_acks qs d) w q (data_acks s.latest d g qs l) (acks-fits d f qs n)))
 
   wrote_of_lem : (made : Bool) (k : Key) (ns : List ℕ) → key_made k ≡ made → Sound (wrote_of made k ns s).state
   wrote_of_lem false k ns m = h
@@ -175,15 +175,15 @@ module _ (s : State) (h : Sound s) where
 
   -- ---- resends
 
-  resend-good : (on room : Bool) (t timeout giveUp : ℕ) → on_time t s ≡ on → Sound (resend on room t timeout giveUp s).state
-  resend-good false room t timeout giveUp o = h
-  resend-good true false t timeout giveUp o = well_test (with_time t s) (timed_well t s h o)
-  resend-good true true t timeout giveUp o =
-      well_test (with_protocol (rust.resent t timeout giveUp s.protocol) (with_time t s)) (well_resent t timeout giveUp s.protocol (timed_well t s h o))
+  resend-good : (on room : Bool) (t timeout give_up : ℕ) → on_time t s ≡ on → Sound (resend on room t timeout give_up s).state
+  resend-good false room t timeout give_up o = h
+  resend-good true false t timeout give_up o = well_test (with_time t s) (timed_well t s h o)
+  resend-good true true t timeout give_up o =
+      well_test (with_protocol (rust.resent t timeout give_up s.protocol) (with_time t s)) (well_resent t timeout give_up s.protocol (timed_well t s h o))
 
-  resends-good : (t timeout giveUp n : ℕ) → Sound (take_resends_s t timeout giveUp n s).state
+  resends-good : (t timeout give_up n : ℕ) → Sound (take_resends_s t timeout give_up n s).state
   unfolding take_resends_s
-  resends-good t timeout giveUp n = resend-good (on_time t s) (leb (length (flat (rust.all_rows t timeout giveUp s.protocol))) n) t timeout giveUp refl
+  resends-good t timeout give_up n = resend-good (on_time t s) (leb (length (flat (rust.all_rows t timeout give_up s.protocol))) n) t timeout give_up refl
 
 -- every call keeps a table well formed, whatever its arguments
 pub kept : (e : Call) (s : State) → well_formed s ≡ true → well_formed (reply e s).state ≡ true
@@ -194,7 +194,7 @@ kept (channel k) s h = channel-good s h k
 kept (next_bundle k l) s h = next-bundle-good s h k (length l)
 kept (prepare t k reliable hs) s h = prepare-good s h t k reliable hs
 kept (acks_written k ns) s h = acks-written-good s h k ns
-kept (take_resends t timeout giveUp l) s h = resends-good s h t timeout giveUp (length l)
+kept (take_resends t timeout give_up l) s h = resends-good s h t timeout give_up (length l)
 kept (holds x) s h = h
 kept last_accepted_prefix s h = h
 kept reset_prefix_offset s h = well_test (with_protocol (rust.reset s.protocol) s) (well_numbers s.latest s.protocol.prefix 0 s.protocol (well_facts s h))

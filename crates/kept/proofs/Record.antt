@@ -5,7 +5,7 @@ use mathlib.Core.List.{List, [], ◌∷◌}
 use Prim.Native.Nat.{ℕ}
 use Rattle.packet.specs.declared.Record.{Record}
 use Rattle.packet.specs.Data.{is_set, index_of, version_of, well_made}
-use Rattle.model.specs.State.{OffChannel, OnChannel, Protocol, State, off_with, on_with, withPrefix, with_protocol, off_at, on_at}
+use Rattle.model.specs.State.{OffChannel, OnChannel, Protocol, State, off_with, on_with, with_prefix, with_protocol, off_at, on_at}
 use Rattle.model.specs.Refusals.{Refusal, Change, nothing, time, prefix, channel, acks, changes, Stages, stage, left}
 use Rattle.model.specs.Record.{Outcome, granted, rejected, far_fragment, bare_run, acked_on, acked_off, on_record, off_record}
 use Rattle.model.specs.Room.{fits, fits_on}
@@ -79,10 +79,10 @@ module _ (t a : ℕ) (r : Record) (made : well_made r ≡ true) where
   record_of_lem : (b : Bool) → is_set r.on ≡ b → (p : Protocol) → Well t p → Leaves (Good t) (record_of b t a r p)
   record_of_lem true o p w =
       let c = on_at a (index_of r) (version_of r) p in
-      mapped_on (withPrefix r.prefix p) (good-numbers t p.source r.prefix p.offset p w.good.source w.good) (on_record p.forwarding t r c)
+      mapped_on (with_prefix r.prefix p) (good-numbers t p.source r.prefix p.offset p w.good.source w.good) (on_record p.forwarding t r c)
       (on_record_lem t r made p.forwarding c (on-at-fits p w.fits a (index_of r) (version_of r)) (its_on p w.good o))
   record_of_lem false o p w =
-      mapped_off (withPrefix r.prefix p) (good-numbers t p.source r.prefix p.offset p w.good.source w.good) (off_record t r (off_at a p)) (off_record_lem t r made (off_at a p) (off-at-good t p w.good a))
+      mapped_off (with_prefix r.prefix p) (good-numbers t p.source r.prefix p.offset p w.good.source w.good) (off_record t r (off_at a p)) (off_record_lem t r made (off_at a p) (off-at-good t p w.good a))
 
   accepted : (p : Protocol) → Well t p → Leaves (Good t) (accept_record t a r p)
   unfolding accept_record
@@ -97,7 +97,7 @@ module _ (t a : ℕ) (r : Record) (made : well_made r ≡ true) where
   forwarded-out p w = forward_of_lem (is_set r.on) refl p w
 
 -- the prefix is no part of the room
-place-prefix : (b : Bool) (a i q : ℕ) (p : Protocol) → has_place b a i p ≡ true → has_place b a i (withPrefix q p) ≡ true
+place-prefix : (b : Bool) (a i q : ℕ) (p : Protocol) → has_place b a i p ≡ true → has_place b a i (with_prefix q p) ≡ true
 place-prefix true a i q p h = h
 place-prefix false a i q p h = h
 
@@ -114,7 +114,7 @@ module _ (t a : ℕ) (r : Record) (s : State) (h : At t s) where
   module _ (made : well_made r ≡ true) (place : has_place (is_set r.on) a (index_of r) s.protocol ≡ true) where
     stages_at : EachStage (At t) (record_stages a r s)
     stages_at =
-        let p = withPrefix r.prefix s.protocol in
+        let p = with_prefix r.prefix s.protocol in
         let w : Well t p = well_numbers t r.prefix s.protocol.offset s.protocol h.well in
         let l = place-prefix (is_set r.on) a (index_of r) r.prefix s.protocol place in
         record {

@@ -15,7 +15,7 @@ use Rattle.seq.specs.Num.{cmp}
 use Rattle.packet.specs.declared.OutEntry.{OutEntry}
 use Rattle.packet.specs.declared.Record.{Record}
 use Rattle.packet.specs.Data.{is_set, single_acks}
-use Rattle.model.specs.State.{OffData, OffChannel, OnChannel, no_data, new_off, new_on, with_out, withAcks, with_bundles, off_with, on_with}
+use Rattle.model.specs.State.{OffData, OffChannel, OnChannel, no_data, new_off, new_on, with_out, with_acks, with_bundles, off_with, on_with}
 use Rattle.model.specs.Acks.{is_greater, ack_cumulative, has_number, ack_singles, is, take_written}
 use Rattle.model.specs.Record.{cumulated, acked_on, acked_off}
 use Rattle.model.specs.Room.{fits_off, fits_on}
@@ -49,7 +49,7 @@ module _ (d : OffData) (f : DataFits d) where
   out-fits : (l : List OutEntry) → length l ≤ length d.out → DataFits (with_out l d)
   out-fits l h = record { out = omega (arith, f.out); acks = f.acks; groups = f.groups; places = f.places; bundles = f.bundles; handles = f.handles }
 
-  pub acks-fits : (l : List ℕ) → length l ≤ length d.acks → DataFits (withAcks l d)
+  pub acks-fits : (l : List ℕ) → length l ≤ length d.acks → DataFits (with_acks l d)
   acks-fits l h = record { out = f.out; acks = omega (arith, f.acks); groups = f.groups; places = f.places; bundles = f.bundles; handles = f.handles }
 
   pub popped-fits : (b : List ℕ) (bs : List (List ℕ)) → d.bundles ≡ b ∷ bs → DataFits (with_bundles bs d)
@@ -98,6 +98,6 @@ taken-short n (m ∷ ns) qs h = at (has (is m) qs) (taken-short n ns (remove_fir
     at true ih = ih
     at false ih = tt
 
-pub resent-fits : (t timeout giveUp : ℕ) (d : OffData) → DataFits d → DataFits (resent_data t timeout giveUp d)
-resent-fits t timeout giveUp d f =
-    out-fits d f (map (mark t timeout) (kept t giveUp d)) (omega (arith, length-map (kept t giveUp d) (mark t timeout), length-keep (young t giveUp) d.out))
+pub resent-fits : (t timeout give_up : ℕ) (d : OffData) → DataFits d → DataFits (resent_data t timeout give_up d)
+resent-fits t timeout give_up d f =
+    out-fits d f (map (mark t timeout) (kept t give_up d)) (omega (arith, length-map (kept t give_up d) (mark t timeout), length-keep (young t give_up) d.out))

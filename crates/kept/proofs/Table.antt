@@ -139,23 +139,23 @@ well_put_off t a i p w h c x g k = record { fits = fits_put_off p w.fits c (rw x
 
 -- ---- resends go through every channel
 
-pub well_resent : (t timeout giveUp : ℕ) (p : Protocol) → Well t p → Well t (resent t timeout giveUp p)
+pub well_resent : (t timeout give_up : ℕ) (p : Protocol) → Well t p → Well t (resent t timeout give_up p)
 unfolding resent
-well_resent t timeout giveUp p w =
+well_resent t timeout give_up p w =
     record {
       fits =
           record {
-            offs = omega (arith, w.fits.offs, length-map p.offs (resent_off t timeout giveUp));
-            ons = omega (arith, w.fits.ons, length-map p.ons (resent_on t timeout giveUp));
-            each_off = all_b-map_so fits_off fits_off (resent_off t timeout giveUp) (λ c k. off-fits_with (resent_data t timeout giveUp c.off) c (resent-fits t timeout giveUp c.off (fits_data_facts c.off k))) p.offs w.fits.each_off;
-            each_on = all_b-map_so fits_on fits_on (resent_on t timeout giveUp) (λ c k. on-fits_with (resent_data t timeout giveUp c.off) c (resent-fits t timeout giveUp c.off (fits-on_facts c k).common) k) p.ons w.fits.each_on;
+            offs = omega (arith, w.fits.offs, length-map p.offs (resent_off t timeout give_up));
+            ons = omega (arith, w.fits.ons, length-map p.ons (resent_on t timeout give_up));
+            each_off = all_b-map_so fits_off fits_off (resent_off t timeout give_up) (λ c k. off-fits_with (resent_data t timeout give_up c.off) c (resent-fits t timeout give_up c.off (fits_data_facts c.off k))) p.offs w.fits.each_off;
+            each_on = all_b-map_so fits_on fits_on (resent_on t timeout give_up) (λ c k. on-fits_with (resent_data t timeout give_up c.off) c (resent-fits t timeout give_up c.off (fits-on_facts c k).common) k) p.ons w.fits.each_on;
           };
       good =
           record {
-            offs = all_b-map_so (off_good t) (off_good t) (resent_off t timeout giveUp) (λ c k. data_test t (resent_data t timeout giveUp c.off) (resent-good t timeout giveUp c.off (data_facts t c.off k))) p.offs w.good.offs;
-            ons = all_b-map_so (on_good t) (on_good t) (resent_on t timeout giveUp) (λ c k. on_test t (resent_on t timeout giveUp c) (on_with_lem t (resent_data t timeout giveUp c.off) c (resent-good t timeout giveUp c.off (on_facts t c k).common) (on_facts t c k))) p.ons w.good.ons;
-            apart_offs = apart_map same_off (resent_off t timeout giveUp) (λ x y. refl) p.offs w.good.apart_offs;
-            apart_ons = apart_map same_on (resent_on t timeout giveUp) (λ x y. refl) p.ons w.good.apart_ons;
+            offs = all_b-map_so (off_good t) (off_good t) (resent_off t timeout give_up) (λ c k. data_test t (resent_data t timeout give_up c.off) (resent-good t timeout give_up c.off (data_facts t c.off k))) p.offs w.good.offs;
+            ons = all_b-map_so (on_good t) (on_good t) (resent_on t timeout give_up) (λ c k. on_test t (resent_on t timeout give_up c) (on_with_lem t (resent_data t timeout give_up c.off) c (resent-good t timeout give_up c.off (on_facts t c k).common) (on_facts t c k))) p.ons w.good.ons;
+            apart_offs = apart_map same_off (resent_off t timeout give_up) (λ x y. refl) p.offs w.good.apart_offs;
+            apart_ons = apart_map same_on (resent_on t timeout give_up) (λ x y. refl) p.ons w.good.apart_ons;
             source = w.good.source;
           };
     }

@@ -41,9 +41,9 @@ pub next_small : (p : Popped) (t : Table) (k : Key) (l : List ℕ) → p ≡ nex
 unfolding next_of
 next_small p t k l e = subst (λ (x : Popped). x.code ≤ 13) (sym e) (small (called (next_bundle k l) t).answer)
 
-pub rows_small : (s : Resent) (t : Table) (time timeout giveUp : ℕ) (l : List ℕ) → s ≡ resends_of t time timeout giveUp l → s.code ≤ 13
+pub rows_small : (s : Resent) (t : Table) (time timeout give_up : ℕ) (l : List ℕ) → s ≡ resends_of t time timeout give_up l → s.code ≤ 13
 unfolding resends_of
-rows_small s t time timeout giveUp l e = subst (λ (x : Resent). x.code ≤ 13) (sym e) (small (called (take_resends time timeout giveUp l) t).answer)
+rows_small s t time timeout give_up l e = subst (λ (x : Resent). x.code ≤ 13) (sym e) (small (called (take_resends time timeout give_up l) t).answer)
 
 -- ---- a bundle has at most 64 handles
 
@@ -81,8 +81,8 @@ numbered t n = record { table = t; number = n }
 pub next-is : (t : Table) (k : Key) (l : List ℕ) (p : Popped) (r : Numbered) → p ≡ next_of t k l → r ≡ numbered_next p → r ≡ Spec.next_numbered t k l
 next-is t k l p r e q = q ∙ ap (λ (x : Popped). numbered x.table (bundle_number x)) e
 
-pub rows_is : (t : Table) (time timeout giveUp : ℕ) (l : List ℕ) (s : Resent) (r : Numbered) → s ≡ resends_of t time timeout giveUp l → r ≡ numbered_rows s → r ≡ Spec.resends_numbered t time timeout giveUp l
-rows_is t time timeout giveUp l s r e q = q ∙ ap (λ (x : Resent). numbered x.table (rows_number x)) e
+pub rows_is : (t : Table) (time timeout give_up : ℕ) (l : List ℕ) (s : Resent) (r : Numbered) → s ≡ resends_of t time timeout give_up l → r ≡ numbered_rows s → r ≡ Spec.resends_numbered t time timeout give_up l
+rows_is t time timeout give_up l s r e q = q ∙ ap (λ (x : Resent). numbered x.table (rows_number x)) e
 
 pub delivery-is : (t : Table) (time a : ℕ) (b : Batch) (d : Delivered) → d ≡ accepted t time a b
     → ◌≡◌ {A = Arrived} (record { table = d.table; code = d.code; answer = record { count = d.count; view = d.view } }) (Spec.arrived_of (accepted t time a b))

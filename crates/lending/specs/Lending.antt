@@ -14,7 +14,7 @@ abbrev pub next_numbered : Table → Key → List ℕ → Numbered
 next_numbered t k l = numbered_next (next_of t k l)
 
 abbrev pub resends_numbered : Table → ℕ → ℕ → ℕ → List ℕ → Numbered
-resends_numbered t time timeout giveUp l = numbered_rows (resends_of t time timeout giveUp l)
+resends_numbered t time timeout give_up l = numbered_rows (resends_of t time timeout give_up l)
 
 -- ---- a delivery of a list of any length
 

@@ -21,46 +21,46 @@ use Rattle.out_resends.proofs.Resends.{mark_no}
 use Rattle.listing.specs.Listing.{list_calm, list_rows, list_sent}
 
 abbrev pub kept_of : ℕ → ℕ → OutList → List OutEntry
-kept_of t giveUp o = keep_by (young t giveUp) (out.abs o)
+kept_of t give_up o = keep_by (young t give_up) (out.abs o)
 
 abbrev pub due_of : ℕ → ℕ → ℕ → OutList → List OutEntry
-due_of t timeout giveUp o = keep_by (due t timeout) (kept_of t giveUp o)
+due_of t timeout give_up o = keep_by (due t timeout) (kept_of t give_up o)
 
-kept-few : (o : OutList) (t giveUp : ℕ) → out.Wf o → length (kept_of t giveUp o) ≤ 32
-kept-few o t giveUp w = omega (arith, length-keep (young t giveUp) (out.abs o), wf_le o w)
+kept-few : (o : OutList) (t give_up : ℕ) → out.Wf o → length (kept_of t give_up o) ≤ 32
+kept-few o t give_up w = omega (arith, length-keep (young t give_up) (out.abs o), wf_le o w)
 
-module _ (o : OutList) (a t timeout giveUp : ℕ) (w : out.Wf o) (m : ℕ) (e : m ≡ length (due_of t timeout giveUp o)) where
-  pub list_count : m ≡ length (list_rows a t timeout giveUp o)
+module _ (o : OutList) (a t timeout give_up : ℕ) (w : out.Wf o) (m : ℕ) (e : m ≡ length (due_of t timeout give_up o)) where
+  pub list_count : m ≡ length (list_rows a t timeout give_up o)
   unfolding list_rows
-  list_count = e ∙ sym (length-map (due_of t timeout giveUp o) _)
+  list_count = e ∙ sym (length-map (due_of t timeout give_up o) _)
 
   pub list-few : m ≤ 32
-  list-few = omega (arith, length-keep (due t timeout) (kept_of t giveUp o), kept-few o t giveUp w)
+  list-few = omega (arith, length-keep (due t timeout) (kept_of t give_up o), kept-few o t give_up w)
 
 -- ---- a list whose entries are neither given up nor due
 
-module _ (o : OutList) (t timeout giveUp : ℕ) (q : list_calm t timeout giveUp o ≡ true) where
-  is-young : (e : OutEntry) → calm t timeout giveUp e ≡ true → young t giveUp e ≡ true
+module _ (o : OutList) (t timeout give_up : ℕ) (q : list_calm t timeout give_up o ≡ true) where
+  is-young : (e : OutEntry) → calm t timeout give_up e ≡ true → young t give_up e ≡ true
   unfolding calm
-  is-young e p = and_left (young t giveUp e) (not (due t timeout e)) p
+  is-young e p = and_left (young t give_up e) (not (due t timeout e)) p
 
-  not_due : (e : OutEntry) → calm t timeout giveUp e ≡ true → due t timeout e ≡ false
+  not_due : (e : OutEntry) → calm t timeout give_up e ≡ true → due t timeout e ≡ false
   unfolding calm
-  not_due e p = not-true (due t timeout e) (and_right (young t giveUp e) (not (due t timeout e)) p)
+  not_due e p = not-true (due t timeout e) (and_right (young t give_up e) (not (due t timeout e)) p)
 
-  all-kept : keep_by (young t giveUp) (out.abs o) ≡ out.abs o
-  all-kept = keep_all (young t giveUp) (out.abs o) (all_b_weaken (calm t timeout giveUp) (young t giveUp) is-young (out.abs o) q)
+  all-kept : keep_by (young t give_up) (out.abs o) ≡ out.abs o
+  all-kept = keep_all (young t give_up) (out.abs o) (all_b_weaken (calm t timeout give_up) (young t give_up) is-young (out.abs o) q)
 
   none-due : keep_by (due t timeout) (out.abs o) ≡ []
-  none-due = keep-none (due t timeout) (calm t timeout giveUp) not_due (out.abs o) q
+  none-due = keep-none (due t timeout) (calm t timeout give_up) not_due (out.abs o) q
 
-  pub calm-rows : (a : ℕ) → list_rows a t timeout giveUp o ≡ []
+  pub calm-rows : (a : ℕ) → list_rows a t timeout give_up o ≡ []
   unfolding list_rows
   calm-rows a = rw (all-kept, none-due)
 
-  pub calm_sent : out.Wf o → list_sent t timeout giveUp o ≡ o
+  pub calm_sent : out.Wf o → list_sent t timeout give_up o ≡ o
   unfolding list_sent
   calm_sent w =
       ap (λ (es : List OutEntry). out.repr (map (mark t timeout) es)) all-kept
-      ∙ ap out.repr (sym (map-kept (calm t timeout giveUp) (mark t timeout) (out.abs o) (λ e p. mark_no e t timeout false (sym (not_due e p)) refl) q))
+      ∙ ap out.repr (sym (map-kept (calm t timeout give_up) (mark t timeout) (out.abs o) (λ e p. mark_no e t timeout false (sym (not_due e p)) refl) q))
       ∙ sym w

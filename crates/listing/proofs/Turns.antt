@@ -224,29 +224,29 @@ module _ (o : OutList) (a : ℕ) (f : OutEntry → Bool) (lent₀ : List ℕ) (a
 
 -- ---- both
 
-pub record Resending (o : OutList) (a t timeout giveUp : ℕ) (lent₀ : List ℕ) (at : ℕ) (lent : List ℕ) (r : OutList) (k next i : ℕ) : Type 0 where
-  pub list : Sliding o (young t giveUp) (mark t timeout) r k i
-  pub rows : Rows o a (due_young t timeout giveUp) lent₀ at lent next i
+pub record Resending (o : OutList) (a t timeout give_up : ℕ) (lent₀ : List ℕ) (at : ℕ) (lent : List ℕ) (r : OutList) (k next i : ℕ) : Type 0 where
+  pub list : Sliding o (young t give_up) (mark t timeout) r k i
+  pub rows : Rows o a (due_young t timeout give_up) lent₀ at lent next i
 
-module _ (o : OutList) (a t timeout giveUp : ℕ) (lent₀ : List ℕ) (at : ℕ) where
+module _ (o : OutList) (a t timeout give_up : ℕ) (lent₀ : List ℕ) (at : ℕ) where
   abbrev both : OutEntry → Bool
-  both = due_young t timeout giveUp
+  both = due_young t timeout give_up
 
-  all-rows : flat (list_rows a t timeout giveUp o) ≡ rows_all a both o
+  all-rows : flat (list_rows a t timeout give_up o) ≡ rows_all a both o
   unfolding list_rows
-  all-rows = ap (λ (es : List OutEntry). flat (map (row a) es)) (keep-keep (due t timeout) (young t giveUp) both (λ e. refl) (abs o))
+  all-rows = ap (λ (es : List OutEntry). flat (map (row a) es)) (keep-keep (due t timeout) (young t give_up) both (λ e. refl) (abs o))
 
-  pub resend-start : Wf o → at + length (flat (list_rows a t timeout giveUp o)) ≤ length lent₀ → Resending o a t timeout giveUp lent₀ at lent₀ o 0 at 0
+  pub resend-start : Wf o → at + length (flat (list_rows a t timeout give_up o)) ≤ length lent₀ → Resending o a t timeout give_up lent₀ at lent₀ o 0 at 0
   resend-start w h =
-      record { list = slide_start o (young t giveUp) (mark t timeout) w; rows = rows_start o a both lent₀ at (omega (arith, ap length all-rows)) }
+      record { list = slide_start o (young t give_up) (mark t timeout) w; rows = rows_start o a both lent₀ at (omega (arith, ap length all-rows)) }
 
-  module _ (lent : List ℕ) (r : OutList) (k next i : ℕ) (s : Resending o a t timeout giveUp lent₀ at lent r k next i) where
-    module _ (h : i < o.len) (b : Bool) (p : b ≡ young t giveUp (get_or r.entries i no_entry)) where
+  module _ (lent : List ℕ) (r : OutList) (k next i : ℕ) (s : Resending o a t timeout give_up lent₀ at lent r k next i) where
+    module _ (h : i < o.len) (b : Bool) (p : b ≡ young t give_up (get_or r.entries i no_entry)) where
       abbrev e : OutEntry
       e = get_or r.entries i no_entry
 
       read : e ≡ get_or o.entries i no_entry
-      read = slide_read o (young t giveUp) (mark t timeout) r k i s.list h
+      read = slide_read o (young t give_up) (mark t timeout) r k i s.list h
 
       room : o.len ≤ length o.entries
       room = omega (arith, s.list.size, s.list.room)
@@ -274,14 +274,14 @@ module _ (o : OutList) (a t timeout giveUp : ℕ) (lent₀ : List ℕ) (at : ℕ
       resend_old lent₁ next₁ y u v = rows_pass o a both lent₀ at lent next i s.rows h room e read (λ j. (sym p ∙ y) j && due t timeout e) lent₁ next₁ u v
 
     module _ (w : Wf o) (h : o.len ≤ i) where
-      pub resend-is : ◌≡◌ {A = Listed} (record { out = record { len = k; entries = r.entries }; next = next }) (listed a t timeout giveUp o at)
+      pub resend-is : ◌≡◌ {A = Listed} (record { out = record { len = k; entries = r.entries }; next = next }) (listed a t timeout give_up o at)
       unfolding list_sent
       resend-is =
-          let x = slide_end o (young t giveUp) (mark t timeout) r k i w s.list h in
-          let y : next ≡ at + length (flat (list_rows a t timeout giveUp o)) = (rows_end o a both lent₀ at lent next i s.rows h).0 ∙ ap (λ (v : List ℕ). at + length v) (sym all-rows) in
+          let x = slide_end o (young t give_up) (mark t timeout) r k i w s.list h in
+          let y : next ≡ at + length (flat (list_rows a t timeout give_up o)) = (rows_end o a both lent₀ at lent next i s.rows h).0 ∙ ap (λ (v : List ℕ). at + length v) (sym all-rows) in
           λ j. record { out = x j; next = y j }
 
-      pub resend-lent : lent ≡ written_at at (flat (list_rows a t timeout giveUp o)) lent₀
+      pub resend-lent : lent ≡ written_at at (flat (list_rows a t timeout give_up o)) lent₀
       resend-lent = (rows_end o a both lent₀ at lent next i s.rows h).1 ∙ ap (λ (v : List ℕ). written_at at v lent₀) (sym all-rows)
 
 pub ruleset turns = (resend-start, resend-first, resend_second, rules)

@@ -11,14 +11,14 @@ use Rattle.out_resends.specs.Resends.{calm}
 use Rattle.listing.specs.declared.Listed.{Listed}
 
 unfoldable pub list_rows : ℕ → ℕ → ℕ → ℕ → OutList → List Resend
-list_rows a t timeout giveUp o = map (row a) (keep_by (due t timeout) (keep_by (young t giveUp) (out.abs o)))
+list_rows a t timeout give_up o = map (row a) (keep_by (due t timeout) (keep_by (young t give_up) (out.abs o)))
 
 unfoldable pub list_sent : ℕ → ℕ → ℕ → OutList → OutList
-list_sent t timeout giveUp o = out.repr (map (mark t timeout) (keep_by (young t giveUp) (out.abs o)))
+list_sent t timeout give_up o = out.repr (map (mark t timeout) (keep_by (young t give_up) (out.abs o)))
 
 abbrev pub listed : ℕ → ℕ → ℕ → ℕ → OutList → ℕ → Listed
-listed a t timeout giveUp o at = record { out = list_sent t timeout giveUp o; next = at + length (flat (list_rows a t timeout giveUp o)) }
+listed a t timeout give_up o at = record { out = list_sent t timeout give_up o; next = at + length (flat (list_rows a t timeout give_up o)) }
 
 -- a resend leaves the list as it is, and has no row of it
 abbrev pub list_calm : ℕ → ℕ → ℕ → OutList → Bool
-list_calm t timeout giveUp o = all_b (calm t timeout giveUp) (out.abs o)
+list_calm t timeout give_up o = all_b (calm t timeout give_up) (out.abs o)

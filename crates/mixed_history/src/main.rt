@@ -5,7 +5,7 @@
 mod play;
 
 use std::io;
-use std::io::{BufWriter, Write};
+use std::io::Write;
 use table::Table;
 
 fn stepped<W: Write>(out: &mut W, t: Table, step: u32, k: u32) -> io::Result<Table> {
@@ -28,7 +28,7 @@ fn malformed<W: Write>(out: &mut W, t: Table) -> io::Result<()> {
 }
 
 fn main(rt: HostRuntime) -> io::Result<()> {
-    let mut out = BufWriter::new(rt.alloc(), rt.stdout())?;
+    let mut out = rt.stdout();
     let mut t = Table::new(true);
     for step in 0..2000 {
         t = stepped(&mut out, t, step, draw::pick(step, 0, 59, 100))?;

@@ -6,7 +6,7 @@ use Rattle.packet.specs.declared.Record.{Record}
 use Rattle.packet.specs.declared.Key.{Key}
 use Rattle.packet.specs.declared.View.{View}
 use Rattle.packet.specs.Data.{is_set, is_flag, index_of, version_of, key_index, well_made, key_made}
-use Rattle.model.specs.State.{Protocol, State, off_with, on_with, withAcks, withPrefix, with_time, with_protocol, has_off, has_on, off_at, on_at, put_off, put_on}
+use Rattle.model.specs.State.{Protocol, State, off_with, on_with, with_acks, with_prefix, with_time, with_protocol, has_off, has_on, off_at, on_at, put_off, put_on}
 use Rattle.model.specs.Refusals.{Refusal, not_well_formed, out_of_range, time_below, channel_absent, table_full, beyond_group, over_limit, list_too_short, Stages, left}
 use Rattle.model.specs.Acks.{take_written}
 use Rattle.model.specs.Record.{Outcome, granted, rejected, far_fragment, bare_run, acked_on, acked_off}
@@ -57,9 +57,9 @@ record_stages a r s =
     record {
       nothing = s;
       time = s;
-      prefix = with_protocol (withPrefix r.prefix s.protocol) s;
-      channel = with_protocol (record_channel (is_set r.on) a r (withPrefix r.prefix s.protocol)) s;
-      acks = with_protocol (record_acks (is_set r.on) a r (withPrefix r.prefix s.protocol)) s;
+      prefix = with_protocol (with_prefix r.prefix s.protocol) s;
+      channel = with_protocol (record_channel (is_set r.on) a r (with_prefix r.prefix s.protocol)) s;
+      acks = with_protocol (record_acks (is_set r.on) a r (with_prefix r.prefix s.protocol)) s;
     }
 
 abbrev pub refuse_record : Refusal → ℕ → Record → State → Recorded
@@ -244,7 +244,7 @@ queue_if true k s = (rust.data_of k s.protocol).acks
 queue_if false k s = []
 
 abbrev pub wrote_if : Bool → List ℕ → Key → State → Reply
-wrote_if true qs k s = grant done (with_protocol (rust.put_data k (withAcks qs (rust.data_of k s.protocol)) s.protocol) s)
+wrote_if true qs k s = grant done (with_protocol (rust.put_data k (with_acks qs (rust.data_of k s.protocol)) s.protocol) s)
 wrote_if false qs k s = refuse channel_absent (untimed s)
 
 abbrev pub wrote : Option (List ℕ) → Key → State → Reply
@@ -262,13 +262,13 @@ acks_written_s k ns s = wrote_of (key_made k) k ns s
 
 -- the tests are: 3, 12 passed
 abbrev pub resend : Bool → Bool → ℕ → ℕ → ℕ → State → Reply
-resend false room t timeout giveUp s = refuse time_below (timed t s)
-resend true false t timeout giveUp s = refuse list_too_short (timed t s)
-resend true true t timeout giveUp s =
-    grant (resends (rust.all_rows t timeout giveUp s.protocol)) (with_protocol (rust.resent t timeout giveUp s.protocol) (with_time t s))
+resend false room t timeout give_up s = refuse time_below (timed t s)
+resend true false t timeout give_up s = refuse list_too_short (timed t s)
+resend true true t timeout give_up s =
+    grant (resends (rust.all_rows t timeout give_up s.protocol)) (with_protocol (rust.resent t timeout give_up s.protocol) (with_time t s))
 
 unfoldable pub take_resends_s : ℕ → ℕ → ℕ → ℕ → State → Reply
-take_resends_s t timeout giveUp places s = resend (on_time t s) (leb (length (flat (rust.all_rows t timeout giveUp s.protocol))) places) t timeout giveUp s
+take_resends_s t timeout give_up places s = resend (on_time t s) (leb (length (flat (rust.all_rows t timeout give_up s.protocol))) places) t timeout give_up s
 
 -- ---- every call on a well-formed table, and on any: 1 first
 
@@ -279,7 +279,7 @@ reply (channel k) s = channel_s k s
 reply (next_bundle k l) s = next_bundle_s k (length l) s
 reply (prepare t k reliable hs) s = prepare_s t k reliable hs s
 reply (acks_written k ns) s = acks_written_s k ns s
-reply (take_resends t timeout giveUp l) s = take_resends_s t timeout giveUp (length l) s
+reply (take_resends t timeout give_up l) s = take_resends_s t timeout give_up (length l) s
 reply (holds h) s = grant (held (rust.holds h s.protocol)) s
 reply last_accepted_prefix s = grant (prefix_is s.protocol.prefix) s
 reply reset_prefix_offset s = grant done (with_protocol (rust.reset s.protocol) s)
@@ -293,7 +293,7 @@ answer_one (channel k) = refused not_well_formed
 answer_one (next_bundle k l) = refused not_well_formed
 answer_one (prepare t k reliable hs) = refused not_well_formed
 answer_one (acks_written k ns) = refused not_well_formed
-answer_one (take_resends t timeout giveUp l) = refused not_well_formed
+answer_one (take_resends t timeout give_up l) = refused not_well_formed
 answer_one (holds h) = refused not_well_formed
 answer_one last_accepted_prefix = refused not_well_formed
 answer_one reset_prefix_offset = refused not_well_formed

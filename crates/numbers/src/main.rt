@@ -4,7 +4,7 @@
 
 use seq::{Order, Seq, SeqAlloc};
 use std::io;
-use std::io::{BufWriter, Write};
+use std::io::Write;
 
 fn digit(n: u32) -> u8 {
     let d = n % 16;
@@ -61,7 +61,7 @@ fn source<W: Write>(out: &mut W) -> io::Result<()> {
 }
 
 fn main(rt: HostRuntime) -> io::Result<()> {
-    let mut out = BufWriter::new(rt.alloc(), rt.stdout())?;
+    let mut out = rt.stdout();
     numbers(&mut out)?;
     source(&mut out)?;
     out.write_all(b"prefix sum for a = 1")?;

@@ -48,7 +48,7 @@ module _ (c : OffChannel) (r : Record) (t : ℕ) (w : WfOff c) where
 
   -- the channel with these acks, groups and bundles, its out list after the single acks
   abbrev with_off : List ℕ → model.OffData → model.OffChannel
-  with_off k d = record { address = c.address; off = model.with_out (ack_singles (single_acks r) (Out.abs c.out)) (model.withAcks k d) }
+  with_off k d = record { address = c.address; off = model.with_out (ack_singles (single_acks r) (Out.abs c.out)) (model.with_acks k d) }
 
   -- what the rule says, of the channel with these acks
   abbrev said_off : List ℕ → Stored → Outcome model.OffChannel

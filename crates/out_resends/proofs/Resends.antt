@@ -26,14 +26,14 @@ use Rattle.out_resends.specs.Resends.{calm}
 
 -- ---- one entry
 
-pub young-is : (e : OutEntry) (t giveUp a : ℕ) → a ≡ t - e.time → ltb a giveUp ≡ young t giveUp e
-young-is e t giveUp a q = ap (λ (k : ℕ). ltb k giveUp) q
+pub young-is : (e : OutEntry) (t give_up a : ℕ) → a ≡ t - e.time → ltb a give_up ≡ young t give_up e
+young-is e t give_up a q = ap (λ (k : ℕ). ltb k give_up) q
 
 pub due-is : (e : OutEntry) (t timeout a : ℕ) → a ≡ t - e.sent → (eqb e.held 1 && leb timeout a) ≡ due t timeout e
 due-is e t timeout a q = ap (λ (k : ℕ). eqb e.held 1 && leb timeout k) q
 
-pub both_is : (e : OutEntry) (t timeout giveUp : ℕ) (a b : Bool) → a ≡ young t giveUp e → b ≡ due t timeout e → a && b ≡ young t giveUp e && due t timeout e
-both_is e t timeout giveUp a b p q = cc
+pub both_is : (e : OutEntry) (t timeout give_up : ℕ) (a b : Bool) → a ≡ young t give_up e → b ≡ due t timeout e → a && b ≡ young t give_up e && due t timeout e
+both_is e t timeout give_up a b p q = cc
 
 pub mark_yes : (e : OutEntry) (t timeout : ℕ) (b : Bool) → b ≡ due t timeout e → b ≡ true → ◌≡◌ {A = OutEntry} (record { time = e.time; sent = t; number = e.number; held = e.held; handle = e.handle }) (mark t timeout e)
 mark_yes e t timeout b p q = rw (sym p ∙ q)
@@ -78,7 +78,7 @@ module _ (o : OutList) (f : OutEntry → Bool) (count i : ℕ) (k : Counting o f
   count_end h = k.so ∙ ap (λ (es : List OutEntry). length (keep_by f es)) (take_all i (abs o) (omega (arith, length-take o.len o.entries)))
 
 abbrev pub due_young : ℕ → ℕ → ℕ → OutEntry → Bool
-due_young t timeout giveUp e = young t giveUp e && due t timeout e
+due_young t timeout give_up e = young t give_up e && due t timeout e
 
 -- all 32 places as a list: those past the count are neither young nor due
 abbrev pub whole : OutList → OutList
@@ -96,22 +96,22 @@ keep_past f q (suc n) [] h = rw q (keep_past f q n [] (omega arith))
 keep_past f q (suc n) (x ∷ xs) h =
     ap (λ (r : List OutEntry). cond (f x) (x ∷ r) r) (keep_past f q n xs (le_of_suc-le-suc h))
 
-pub young_end : (o : OutList) (t timeout giveUp count i : ℕ) → Wf o → Counting (whole o) (due_young t timeout giveUp) count i → 32 ≤ i → count ≡ length (keep_by (due t timeout) (keep_by (young t giveUp) (abs o)))
-young_end o t timeout giveUp count i w k h =
-    let f = due_young t timeout giveUp in
+pub young_end : (o : OutList) (t timeout give_up count i : ℕ) → Wf o → Counting (whole o) (due_young t timeout give_up) count i → 32 ≤ i → count ≡ length (keep_by (due t timeout) (keep_by (young t give_up) (abs o)))
+young_end o t timeout give_up count i w k h =
+    let f = due_young t timeout give_up in
     count_end (whole o) f count i k h
     ∙ ap (λ (es : List OutEntry). length (keep_by f es)) (take_all 32 o.entries (omega (arith, wf-length o w)) ∙ wf_entries o w)
-    ∙ ap length (keep_past f (and-false (young t giveUp no_entry)) 32 (abs o) (wf_le o w))
-    ∙ ap length (sym (keep-keep (due t timeout) (young t giveUp) f (λ e. refl) (abs o)))
+    ∙ ap length (keep_past f (and-false (young t give_up no_entry)) 32 (abs o) (wf_le o w))
+    ∙ ap length (sym (keep-keep (due t timeout) (young t give_up) f (λ e. refl) (abs o)))
 
 pub ruleset counting_young = (young-start, young_end, rules)
 
 -- ---- quiet
 
-pub stays_is : (e : OutEntry) (u : Bool) (t timeout giveUp : ℕ) (a b : Bool) → a ≡ young t giveUp e → b ≡ due t timeout e → (not u || a && not b) ≡ cond u (calm t timeout giveUp e) true
+pub stays_is : (e : OutEntry) (u : Bool) (t timeout give_up : ℕ) (a b : Bool) → a ≡ young t give_up e → b ≡ due t timeout e → (not u || a && not b) ≡ cond u (calm t timeout give_up e) true
 unfolding calm
-stays_is e true t timeout giveUp a b p q = λ j. p j && not (q j)
-stays_is e false t timeout giveUp a b p q = refl
+stays_is e true t timeout give_up a b p q = λ j. p j && not (q j)
+stays_is e false t timeout give_up a b p q = refl
 
 -- nothing is asked of a place that is not used
 abbrev pub any : OutEntry → Bool

@@ -5,4 +5,4 @@ use Rattle.model.specs.Rust.{young, due}
 
 -- neither given up nor due, so that a resend leaves the entry as it is
 unfoldable pub calm : ℕ → ℕ → ℕ → OutEntry → Bool
-calm t timeout giveUp e = young t giveUp e && not (due t timeout e)
+calm t timeout give_up e = young t give_up e && not (due t timeout e)

@@ -11,7 +11,7 @@ use Rattle.channel.specs.declared.OffChannel.{OffChannel}
 use Rattle.channel.specs.declared.OnChannel.{OnChannel}
 use Rattle.quiet.specs.Quiet.{off_calm, on_calm}
 
-pub both_calm : (t timeout giveUp : ℕ) (y : List OffChannel) (z : List OnChannel) (a b : Bool) → a ≡ all_b (off_calm t timeout giveUp) y → b ≡ all_b (on_calm t timeout giveUp) z → a && b ≡ all_b (off_calm t timeout giveUp) y && all_b (on_calm t timeout giveUp) z
-both_calm t timeout giveUp y z a b p q = λ j. p j && q j
+pub both_calm : (t timeout give_up : ℕ) (y : List OffChannel) (z : List OnChannel) (a b : Bool) → a ≡ all_b (off_calm t timeout give_up) y → b ≡ all_b (on_calm t timeout give_up) z → a && b ≡ all_b (off_calm t timeout give_up) y && all_b (on_calm t timeout give_up) z
+both_calm t timeout give_up y z a b p q = λ j. p j && q j
 
 pub ruleset calming = (passing_start, passing_end, both_calm, length_of_map, rules)

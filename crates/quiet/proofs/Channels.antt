@@ -42,10 +42,10 @@ pub record Kind (A : Type 0) : Type 1 where
   pub resent : ℕ → ℕ → ℕ → Model → Model
   pub formed : (c : A) → Form c → out.Wf (out_of c)
   pub spare : Form zero
-  pub idle : (t timeout giveUp : ℕ) → list_calm t timeout giveUp (out_of zero) ≡ true
+  pub idle : (t timeout give_up : ℕ) → list_calm t timeout give_up (out_of zero) ≡ true
   pub back : (c : A) → put (out_of c) c ≡ c
-  pub rows_are : (t timeout giveUp : ℕ) (c : A) → list_rows (address c) t timeout giveUp (out_of c) ≡ rows t timeout giveUp (abs c)
-  pub sent_is : (t timeout giveUp : ℕ) (c : A) → Form c → put (list_sent t timeout giveUp (out_of c)) c ≡ repr (resent t timeout giveUp (abs c))
+  pub rows_are : (t timeout give_up : ℕ) (c : A) → list_rows (address c) t timeout give_up (out_of c) ≡ rows t timeout give_up (abs c)
+  pub sent_is : (t timeout give_up : ℕ) (c : A) → Form c → put (list_sent t timeout give_up (out_of c)) c ≡ repr (resent t timeout give_up (abs c))
 
 -- ---- off-channels
 
@@ -53,20 +53,20 @@ pub off-spare : WfOff zero_off
 unfolding fits_data all_b joined
 off-spare = repr-wf-off (model.new_off 0) refl
 
-pub off_idle : (t timeout giveUp : ℕ) → list_calm t timeout giveUp zero_off.out ≡ true
+pub off_idle : (t timeout give_up : ℕ) → list_calm t timeout give_up zero_off.out ≡ true
 unfolding all_b
-off_idle t timeout giveUp = refl
+off_idle t timeout give_up = refl
 
-pub off-rows : (t timeout giveUp : ℕ) (c : OffChannel) → list_rows c.address t timeout giveUp c.out ≡ rows_off t timeout giveUp (abs_off c)
+pub off-rows : (t timeout give_up : ℕ) (c : OffChannel) → list_rows c.address t timeout give_up c.out ≡ rows_off t timeout give_up (abs_off c)
 unfolding list_rows
-off-rows t timeout giveUp c = refl
+off-rows t timeout give_up c = refl
 
 abbrev pub off_put : OutList → OffChannel → OffChannel
 off_put o c = record { address = c.address; out = o; acks = c.acks; groups = c.groups; bundles = c.bundles }
 
-pub off_sent_lem : (t timeout giveUp : ℕ) (c : OffChannel) → WfOff c → off_put (list_sent t timeout giveUp c.out) c ≡ repr_off (resent_off t timeout giveUp (abs_off c))
+pub off_sent_lem : (t timeout give_up : ℕ) (c : OffChannel) → WfOff c → off_put (list_sent t timeout give_up c.out) c ≡ repr_off (resent_off t timeout give_up (abs_off c))
 unfolding list_sent
-off_sent_lem t timeout giveUp c w = λ j. record { address = c.address; out = list_sent t timeout giveUp c.out; acks = w.acks j; groups = w.groups j; bundles = w.bundles j }
+off_sent_lem t timeout give_up c w = λ j. record { address = c.address; out = list_sent t timeout give_up c.out; acks = w.acks j; groups = w.groups j; bundles = w.bundles j }
 
 abbrev pub off_kind : Kind OffChannel
 off_kind =
@@ -95,20 +95,20 @@ pub on-spare : WfOn zero_on
 unfolding fits_data all_b joined
 on-spare = repr-wf-on (model.new_on 0 0 0) refl
 
-pub on_idle : (t timeout giveUp : ℕ) → list_calm t timeout giveUp zero_on.out ≡ true
+pub on_idle : (t timeout give_up : ℕ) → list_calm t timeout give_up zero_on.out ≡ true
 unfolding all_b
-on_idle t timeout giveUp = refl
+on_idle t timeout give_up = refl
 
-pub on-rows : (t timeout giveUp : ℕ) (c : OnChannel) → list_rows c.address t timeout giveUp c.out ≡ rows_on t timeout giveUp (abs_on c)
+pub on-rows : (t timeout give_up : ℕ) (c : OnChannel) → list_rows c.address t timeout give_up c.out ≡ rows_on t timeout give_up (abs_on c)
 unfolding list_rows
-on-rows t timeout giveUp c = refl
+on-rows t timeout give_up c = refl
 
 abbrev pub on_put : OutList → OnChannel → OnChannel
 on_put o c = record { address = c.address; index = c.index; version = c.version; expected = c.expected; source = c.source; out = o; acks = c.acks; groups = c.groups; bundles = c.bundles; buffer = c.buffer; queue = c.queue }
 
-pub on_sent_lem : (t timeout giveUp : ℕ) (c : OnChannel) → WfOn c → on_put (list_sent t timeout giveUp c.out) c ≡ repr_on (resent_on t timeout giveUp (abs_on c))
+pub on_sent_lem : (t timeout give_up : ℕ) (c : OnChannel) → WfOn c → on_put (list_sent t timeout give_up c.out) c ≡ repr_on (resent_on t timeout give_up (abs_on c))
 unfolding list_sent
-on_sent_lem t timeout giveUp c w = λ j. record { address = c.address; index = c.index; version = c.version; expected = c.expected; source = c.source; out = list_sent t timeout giveUp c.out; acks = w.acks j; groups = w.groups j; bundles = w.bundles j; buffer = w.buffer j; queue = w.queue j }
+on_sent_lem t timeout give_up c w = λ j. record { address = c.address; index = c.index; version = c.version; expected = c.expected; source = c.source; out = list_sent t timeout give_up c.out; acks = w.acks j; groups = w.groups j; bundles = w.bundles j; buffer = w.buffer j; queue = w.queue j }
 
 abbrev pub on_kind : Kind OnChannel
 on_kind =
@@ -164,21 +164,21 @@ module _ {A : Type 0} (K : Kind A) (N : ℕ) (l : List A) (n : ℕ) (w : InForm 
 
 -- ---- the rows of the first n, in order of creation
 
-module _ {A : Type 0} (K : Kind A) (t timeout giveUp : ℕ) where
+module _ {A : Type 0} (K : Kind A) (t timeout give_up : ℕ) where
   abbrev pub rows_of : A → List Resend
-  rows_of c = list_rows (K.address c) t timeout giveUp (K.out_of c)
+  rows_of c = list_rows (K.address c) t timeout give_up (K.out_of c)
 
   abbrev pub all_rows_of : List A → ℕ → List Resend
-  all_rows_of l n = joined (map (K.rows t timeout giveUp) (map K.abs (take n l)))
+  all_rows_of l n = joined (map (K.rows t timeout give_up) (map K.abs (take n l)))
 
   pub rows-joined : (l : List A) (n : ℕ) → joined (map rows_of (take n l)) ≡ all_rows_of l n
   rows-joined l n =
-      (λ i. joined (map (λ c. K.rows_are t timeout giveUp c i) (take n l)))
-      ∙ ap (λ (r : List (List Resend)). joined r) (sym (map-map (K.rows t timeout giveUp) K.abs (take n l)))
+      (λ i. joined (map (λ c. K.rows_are t timeout give_up c i) (take n l)))
+      ∙ ap (λ (r : List (List Resend)). joined r) (sym (map-map (K.rows t timeout give_up) K.abs (take n l)))
 
   -- places past the channels have none
   pub rows_all : (N : ℕ) (l : List A) (n : ℕ) → InForm N K.zero K.Form l n → joined (map rows_of (take N l)) ≡ joined (map rows_of (take n l))
   rows_all N l n w =
       let z = K.zero in
       ap (λ (r : List A). joined (map rows_of r)) (take_all N l (omega (arith, form-size K N l n w)) ∙ w.spare)
-      ∙ joined-spare rows_of z (calm-rows (K.out_of z) t timeout giveUp (K.idle t timeout giveUp) (K.address z)) N (take n l) (omega (arith, length-take n l, w.few))
+      ∙ joined-spare rows_of z (calm-rows (K.out_of z) t timeout give_up (K.idle t timeout give_up) (K.address z)) N (take n l) (omega (arith, length-take n l, w.few))

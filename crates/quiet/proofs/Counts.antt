@@ -49,23 +49,23 @@ module _ {A B : Type 0} (g : A → List B) (N : ℕ) (l : List A) (n : ℕ) wher
 
 -- ---- all N places of an array are counted, though only n are channels
 
-module _ {A : Type 0} (K : Kind A) (t timeout giveUp N : ℕ) (l : List A) (n : ℕ) (w : InForm N K.zero K.Form l n) where
-  pub counted_start : Counting (rows_of K t timeout giveUp) N l N 0 0
-  counted_start = counting_start (rows_of K t timeout giveUp) N l N (omega arith) (form-size K N l n w)
+module _ {A : Type 0} (K : Kind A) (t timeout give_up N : ℕ) (l : List A) (n : ℕ) (w : InForm N K.zero K.Form l n) where
+  pub counted_start : Counting (rows_of K t timeout give_up) N l N 0 0
+  counted_start = counting_start (rows_of K t timeout give_up) N l N (omega arith) (form-size K N l n w)
 
   pub counted_form : (i : ℕ) (d : A) → i < N → out.Wf (K.out_of (get_or l i d))
   counted_form i d h = form-at K N l N (whole K N l n w) i d h
 
-  module _ (count i : ℕ) (d : A) (m : ℕ) (s : Counting (rows_of K t timeout giveUp) N l N count i) (h : i < N) (e : m ≡ length (due_of t timeout giveUp (K.out_of (get_or l i d)))) where
+  module _ (count i : ℕ) (d : A) (m : ℕ) (s : Counting (rows_of K t timeout give_up) N l N count i) (h : i < N) (e : m ≡ length (due_of t timeout give_up (K.out_of (get_or l i d)))) where
     pub counted_few : m ≤ 32
-    counted_few = list-few (K.out_of (get_or l i d)) (K.address (get_or l i d)) t timeout giveUp (counted_form i d h) m e
+    counted_few = list-few (K.out_of (get_or l i d)) (K.address (get_or l i d)) t timeout give_up (counted_form i d h) m e
 
-    pub counted_turn : Counting (rows_of K t timeout giveUp) N l N (count + m) (i + 1)
+    pub counted_turn : Counting (rows_of K t timeout give_up) N l N (count + m) (i + 1)
     counted_turn =
-        counting_step (rows_of K t timeout giveUp) N l N count i d m s h (list_count (K.out_of (get_or l i d)) (K.address (get_or l i d)) t timeout giveUp (counted_form i d h) m e) counted_few
+        counting_step (rows_of K t timeout give_up) N l N count i d m s h (list_count (K.out_of (get_or l i d)) (K.address (get_or l i d)) t timeout give_up (counted_form i d h) m e) counted_few
 
-  pub counted_end : (count i : ℕ) → Counting (rows_of K t timeout giveUp) N l N count i → N ≤ i → count ≡ length (all_rows_of K t timeout giveUp l n)
+  pub counted_end : (count i : ℕ) → Counting (rows_of K t timeout give_up) N l N count i → N ≤ i → count ≡ length (all_rows_of K t timeout give_up l n)
   counted_end count i s h =
-      counting_end (rows_of K t timeout giveUp) N l N count i s h ∙ ap (λ (r : List Resend). length r) (rows_all K t timeout giveUp N l n w ∙ rows-joined K t timeout giveUp l n)
+      counting_end (rows_of K t timeout give_up) N l N count i s h ∙ ap (λ (r : List Resend). length r) (rows_all K t timeout give_up N l n w ∙ rows-joined K t timeout give_up l n)
 
 pub ruleset places = (length_of_map, rules)

@@ -9,14 +9,14 @@ use Rattle.channel.specs.Channel.{abs_off, abs_on}
 use Rattle.listing.specs.Listing.{list_calm}
 
 abbrev pub off_calm : ℕ → ℕ → ℕ → OffChannel → Bool
-off_calm t timeout giveUp c = list_calm t timeout giveUp c.out
+off_calm t timeout give_up c = list_calm t timeout give_up c.out
 
 abbrev pub on_calm : ℕ → ℕ → ℕ → OnChannel → Bool
-on_calm t timeout giveUp c = list_calm t timeout giveUp c.out
+on_calm t timeout give_up c = list_calm t timeout give_up c.out
 
 -- the rows of the first n channels of an array, in order of creation
 unfoldable pub off_rows : ℕ → ℕ → ℕ → List OffChannel → ℕ → List Resend
-off_rows t timeout giveUp l n = joined (map (rows_off t timeout giveUp) (map abs_off (take n l)))
+off_rows t timeout give_up l n = joined (map (rows_off t timeout give_up) (map abs_off (take n l)))
 
 unfoldable pub on_rows : ℕ → ℕ → ℕ → List OnChannel → ℕ → List Resend
-on_rows t timeout giveUp l n = joined (map (rows_on t timeout giveUp) (map abs_on (take n l)))
+on_rows t timeout give_up l n = joined (map (rows_on t timeout give_up) (map abs_on (take n l)))

@@ -51,7 +51,7 @@ use Rattle.calls.specs.Answers.{no_view}
 use Rattle.delivery.specs.declared.Aim.{Aim}
 use Rattle.delivery.specs.declared.Beside.{Beside}
 use Rattle.tally.specs.declared.Tally.{Tally}
-use Rattle.delivery.specs.Delivery.{aimed, opened_on, opened_off, in_use, with_on_key, with_off_key, withOn, with_off, changed}
+use Rattle.delivery.specs.Delivery.{aimed, opened_on, opened_off, in_use, with_on_key, with_off_key, with_on, with_off, changed}
 use Rattle.tally.specs.Tally.{tallied, next}
 use Rattle.receive.proofs.Step.{put_on_p, put_off_p, judged_on, judged_off, OnKeyed, OffKeyed, on_keyed, off_keyed, step-on, step-off, step_malformed, step-full}
 use Rattle.receive.proofs.Judge.{KeptOn, KeptOff, on-next, on-kept, on_dropped, off_next, off-kept, off_dropped}
@@ -144,7 +144,7 @@ module _ (u : Table) (wf : Wf u) (a : ℕ) (r : Record) (aim : Aim) where
 
       -- the state with the prefix alone
       p : model.State
-      p = model.with_protocol (model.withPrefix r.prefix s.protocol) s
+      p = model.with_protocol (model.with_prefix r.prefix s.protocol) s
 
       place : ℕ
       place = place_on x.address x.index p
@@ -181,7 +181,7 @@ module _ (u : Table) (wf : Wf u) (a : ℕ) (r : Record) (aim : Aim) where
       s = abs u
 
       p : model.State
-      p = model.with_protocol (model.withPrefix r.prefix s.protocol) s
+      p = model.with_protocol (model.with_prefix r.prefix s.protocol) s
 
       place : ℕ
       place = place_off x.address p
@@ -316,7 +316,7 @@ module _ (t : Table) (a : ℕ) (b : Batch) (u : Table) (keys : Keys) (done : Tal
 
         turn_on-kept : (y : Bool) (j : OnChannel) (v : View) (n : Tally) (l : Beside) → y ≡ drops k → not y ≡ true
             → j ≡ (step_on (on_record (is_set u.forwarding) t.latest (get_or b.records i z) (abs_on x)) x).channel
-            → v ≡ model.on_view (abs_on j) → n ≡ tallied k v done → l ≡ withOn beside aim.at j.address j.index aim.new (get_or b.records i z).prefix
+            → v ≡ model.on_view (abs_on j) → n ≡ tallied k v done → l ≡ with_on beside aim.at j.address j.index aim.new (get_or b.records i z).prefix
             → Turning t a b (changed u u.latest l u.offs (set u.ons aim.at j)) l.keys n (i + 1)
         unfolding abs
         turn_on-kept y j v n l p q m g₂ s e₂ =
@@ -365,7 +365,7 @@ module _ (t : Table) (a : ℕ) (b : Batch) (u : Table) (keys : Keys) (done : Tal
       turn_on_stored j d₂ v s m e₁ e₂ =
           let v₂ : v ≡ model.on_view (abs_on j) = e₁ ∙ ap (λ (c : OnChannel). model.on_view (abs_on c)) (get_or-set_same u.ons aim.at j d₂ (omega (arith, on_aim.room, ap length (form-ons u w.wf), length-pad 8 zero_on (map repr_on (abs u).protocol.ons)))) in
           turn_on-kept d (opened_on aim.new a rec (get_or u.ons aim.at d)) refl k (g ∙ on_code_read d) y j v s.done s.beside p q m v₂ (ap (λ (x : Course). x.done) e₂)
-          (ap (λ (x : Course). x.beside) e₂ ∙ ap (λ (x : View). withOn beside aim.at x.address x.index aim.new rec.prefix) v₂)
+          (ap (λ (x : Course). x.beside) e₂ ∙ ap (λ (x : View). with_on beside aim.at x.address x.index aim.new rec.prefix) v₂)
 
       -- as the loop has it once the two ways meet
       pub turn_on-joined : (j d₂ : OnChannel) (l : List OnChannel) (v : View) (s : Course) → l ≡ set u.ons aim.at j

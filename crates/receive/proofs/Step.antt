@@ -9,14 +9,14 @@ use Rattle.lists.specs.Find.{find_by, put_by}
 use Rattle.lists.proofs.Find.{find_put}
 use Rattle.packet.specs.declared.Record.{Record}
 use Rattle.packet.specs.Data.{is_set, well_made, index_of, version_of}
-use Rattle.model.specs.State.{OffChannel, OnChannel, Protocol, State, withPrefix, with_protocol, is_on, is_off, has_on, has_off, off_at, on_at, put_off, put_on, new_on, new_off, off_view, on_view}
+use Rattle.model.specs.State.{OffChannel, OnChannel, Protocol, State, with_prefix, with_protocol, is_on, is_off, has_on, has_off, off_at, on_at, put_off, put_on, new_on, new_off, off_view, on_view}
 use Rattle.seq.specs.Num.{sub}
 use Rattle.packet.specs.Data.{packet}
 use Rattle.model.specs.State.{off_with, on_with, with_source}
 use Rattle.model.specs.Group.{Stored, done, beyond, add_in_packet, panics}
 use Rattle.model.specs.Reorder.{reorder, regroup}
 use Rattle.model.specs.Refusals.{Refusal, added, out_of_range, table_full, beyond_group, over_limit, Change, nothing, time, prefix, channel, acks, changes, stage, left}
-use Rattle.model.specs.Record.{Outcome, granted, rejected, far_fragment, bare_run, acked_on, acked_off, queued, observed_if, reliable_of, withReliable, run_of, reliable_in, stored_on, stored_off, loose_on, loose_off, last_given, rules_on, rules_off, current, on_record, cumulative_given, off_record}
+use Rattle.model.specs.Record.{Outcome, granted, rejected, far_fragment, bare_run, acked_on, acked_off, queued, observed_if, reliable_of, with_reliable, run_of, reliable_in, stored_on, stored_off, loose_on, loose_off, last_given, rules_on, rules_off, current, on_record, cumulative_given, off_record}
 use Rattle.model.specs.Room.{fits_off, fits_on, fits, off_room, on_room}
 use Rattle.model.specs.Rust as rust
 use Rattle.model.specs.Port.{takes, refuses, Recorded, record_stages, room_record, judge_record, has_place, place_record, made_record, record_step}
@@ -26,10 +26,10 @@ use Rattle.calls.proofs.Room.{fits_put_on, fits_put_off}
 
 -- the channel put back, with the record's prefix
 abbrev pub put_on_p : Record → State → OnChannel → State
-put_on_p r s x = with_protocol (put_on x (withPrefix r.prefix s.protocol)) s
+put_on_p r s x = with_protocol (put_on x (with_prefix r.prefix s.protocol)) s
 
 abbrev pub put_off_p : Record → State → OffChannel → State
-put_off_p r s x = with_protocol (put_off x (withPrefix r.prefix s.protocol)) s
+put_off_p r s x = with_protocol (put_off x (with_prefix r.prefix s.protocol)) s
 
 abbrev pub roomed_on : Bool → Record → State → OnChannel → Recorded
 roomed_on true r s x = record { result = takes (on_view x); state = put_on_p r s x }
@@ -75,7 +75,7 @@ module _ (a i t : ℕ) (r : Record) where
   unfolding reliable_in
   reliable_keyed forwarding c k =
       let l = reorder (reliable_of c) (packet r) in
-      run_keyed (panics l.queue) (withReliable (regroup l) (with_source (observed_if forwarding c.source r.number) (on_with (queued r c.off) c))) k
+      run_keyed (panics l.queue) (with_reliable (regroup l) (with_source (observed_if forwarding c.source r.number) (on_with (queued r c.off) c))) k
 
   loose_keyed : (c : OnChannel) → OnKeyed a i c → Each (OnKeyed a i) (loose_on t r c)
   unfolding loose_on
@@ -173,7 +173,7 @@ view_off a r p x o k = rw o (ap (λ (c : OffChannel). off_view c) (found-off a x
 -- 4 and the limits, by the record's channel
 module _ (t a : ℕ) (r : Record) (s : State) (f : fits s.protocol ≡ true) where
   abbrev base : Protocol
-  base = withPrefix r.prefix s.protocol
+  base = with_prefix r.prefix s.protocol
 
   base_fits : fits base ≡ true
   unfolding fits

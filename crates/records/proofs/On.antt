@@ -18,7 +18,7 @@ use Rattle.model.specs.State as model
 use Rattle.model.specs.Reorder.{Reliable, reorder, arrive}
 use Rattle.model.specs.Refusals.{last_not_expected}
 use Rattle.model.specs.Group.{Stored, done, beyond, panics, add_in_packet}
-use Rattle.model.specs.Record.{Outcome, rejected, observed_if, reliable_of, withReliable, queued, run_of, reliable_in, stored_on, loose_on, last_given, rules_on, current, on_record}
+use Rattle.model.specs.Record.{Outcome, rejected, observed_if, reliable_of, with_reliable, queued, run_of, reliable_in, stored_on, loose_on, last_given, rules_on, current, on_record}
 use Rattle.model.specs.Room.{fits_on}
 use Rattle.out_list.specs.declared.OutList.{OutList}
 use Rattle.out_list.specs.Out as Out
@@ -77,7 +77,7 @@ module _ (c : OnChannel) (r : Record) (f : ℕ) (w : WfOn c) where
   rel = arrive (state_of c.expected c.buffer c.queue c.bundles) (packet r)
 
   abbrev after : model.OnChannel
-  after = withReliable (arrive (state_of c.expected c.buffer c.queue c.bundles) (packet r)) (model.with_source (observed_if (is_set f) c.source r.number) (model.on_with (queued r (on_acked r (abs_on c)).off) (on_acked r (abs_on c))))
+  after = with_reliable (arrive (state_of c.expected c.buffer c.queue c.bundles) (packet r)) (model.with_source (observed_if (is_set f) c.source r.number) (model.on_with (queued r (on_acked r (abs_on c)).off) (on_acked r (abs_on c))))
 
   after_is : step_on (reliable_in (is_set f) r (on_acked r (abs_on c))) c ≡ room_on (fits_on after) after c
   unfolding reliable_in arrive
@@ -197,8 +197,8 @@ module _ (c : OnChannel) (r : Record) (t : ℕ) (w : WfOn c) where
   abbrev sorted_on : Stored
   sorted_on = add_in_packet t (packet r) (data_of (Frags.abs c.groups) (Made.abs c.bundles))
 
-  abbrev withOn : model.OffData → model.OnChannel
-  withOn d = model.on_with (model.with_out (acked r (Out.abs c.out)) (model.withAcks (Acks.abs c.acks) d)) (on_acked r (abs_on c))
+  abbrev with_on : model.OffData → model.OnChannel
+  with_on d = model.on_with (model.with_out (acked r (Out.abs c.out)) (model.with_acks (Acks.abs c.acks) d)) (on_acked r (abs_on c))
 
   abbrev said_on : Stored → Outcome model.OnChannel
   said_on s = stored_on (on_acked r (abs_on c)) (beside (acked r (Out.abs c.out)) (Acks.abs c.acks) s)
@@ -207,16 +207,16 @@ module _ (c : OnChannel) (r : Record) (t : ℕ) (w : WfOn c) where
   unfolding loose_on
   loose_on-is = ap (λ (s : Stored). stored_on (on_acked r (abs_on c)) s) (added_beside (on_acked r (abs_on c)).off t (packet r))
 
-  room-on : (d : model.OffData) → fits_on (withOn d) ≡ fits_lists d
+  room-on : (d : model.OffData) → fits_on (with_on d) ≡ fits_lists d
   room-on d =
-      loose_room-on (withOn d) (omega (arith, acked_le r (Out.abs c.out), Outs.wf_le c.out w.out)) (Queues.wf_le c.acks w.acks) (Waits.wf_le c.buffer w.buffer) (Waits.wf_le c.queue w.queue)
+      loose_room-on (with_on d) (omega (arith, acked_le r (Out.abs c.out), Outs.wf_le c.out w.out)) (Queues.wf_le c.acks w.acks) (Waits.wf_le c.buffer w.buffer) (Waits.wf_le c.queue w.queue)
 
   said_code : (s : Stored) → (answer s c.groups c.bundles).code ≡ (step_on (said_on s) c).code
   unfolding step_on
   said_code beyond = refl
-  said_code (done d) = at (fits_lists d) ∙ sym (ap (λ (z : Bool). (room_on z (withOn d) c).code) (room-on d))
+  said_code (done d) = at (fits_lists d) ∙ sym (ap (λ (z : Bool). (room_on z (with_on d) c).code) (room-on d))
     where
-      at : (b : Bool) → (Rule.within b d c.groups c.bundles).code ≡ (room_on b (withOn d) c).code
+      at : (b : Bool) → (Rule.within b d c.groups c.bundles).code ≡ (room_on b (with_on d) c).code
       at true = refl
       at false = refl
 
@@ -247,7 +247,7 @@ module _ (c : OnChannel) (r : Record) (t : ℕ) (w : WfOn c) where
           buffer = w.buffer k;
           queue = w.queue k;
         })
-        ∙ sym (ap (λ (z : Bool). (room_on z (withOn d) c).channel) (room-on d ∙ b))
+        ∙ sym (ap (λ (z : Bool). (room_on z (with_on d) c).channel) (room-on d ∙ b))
 
     pub loose_on-taken : left_on ≡ (step_on (loose_on t r (on_acked r (abs_on c))) c).channel
     unfolding added

@@ -46,29 +46,29 @@ with_channels offs ons t =
 
 -- ---- 1
 
-module _ (t : Table) (time timeout giveUp : ℕ) (l : List ℕ) (x : Bool) (e : x ≡ wfb t) (h : not x ≡ true) where
-  unformed : called (take_resends time timeout giveUp l) t ≡ record { answer = refused not_well_formed; table = t }
-  unformed = called-refused (take_resends time timeout giveUp l) t (sym e ∙ not-true x h)
+module _ (t : Table) (time timeout give_up : ℕ) (l : List ℕ) (x : Bool) (e : x ≡ wfb t) (h : not x ≡ true) where
+  unformed : called (take_resends time timeout give_up l) t ≡ record { answer = refused not_well_formed; table = t }
+  unformed = called-refused (take_resends time timeout give_up l) t (sym e ∙ not-true x h)
 
-  pub unformed_is : ◌≡◌ {A = Resent} (record { table = t; code = 1; rows = 0 }) (resends_of t time timeout giveUp l)
+  pub unformed_is : ◌≡◌ {A = Resent} (record { table = t; code = 1; rows = 0 }) (resends_of t time timeout give_up l)
   unfolding resends_of
   unformed_is = ap (λ (o : TableReply). resent_of o) (sym unformed)
 
-  pub unformed_lent : l ≡ resends_lent t time timeout giveUp l
+  pub unformed_lent : l ≡ resends_lent t time timeout give_up l
   unfolding resends_lent
   unformed_lent = ap (λ (o : TableReply). lent o.answer l) (sym unformed)
 
 -- ---- the rows, counted
 
-module _ (t : Table) (time timeout giveUp : ℕ) where
+module _ (t : Table) (time timeout give_up : ℕ) where
   abbrev offs : List Resend
-  offs = off_rows time timeout giveUp t.offs t.offcount
+  offs = off_rows time timeout give_up t.offs t.offcount
 
   abbrev ons : List Resend
-  ons = on_rows time timeout giveUp t.ons t.oncount
+  ons = on_rows time timeout give_up t.ons t.oncount
 
   abbrev rows : List Resend
-  rows = all_rows time timeout giveUp (abs t).protocol
+  rows = all_rows time timeout give_up (abs t).protocol
 
   rows_are : rows ≡ offs ++ ons
   unfolding all_rows abs off_rows on_rows
@@ -105,76 +105,76 @@ same_size at w l l₁ e h = ap length e ∙ length-written at w l h
 
 -- ---- 3, 12, and granted
 
-module _ (t : Table) (time timeout giveUp : ℕ) (l : List ℕ) (x : Bool) (e : x ≡ wfb t) (h : not x ≡ false) where
+module _ (t : Table) (time timeout give_up : ℕ) (l : List ℕ) (x : Bool) (e : x ≡ wfb t) (h : not x ≡ false) where
   abbrev answered : Reply
-  answered = take_resends_s time timeout giveUp (length l) (abs t)
+  answered = take_resends_s time timeout give_up (length l) (abs t)
 
-  granted : called (take_resends time timeout giveUp l) t ≡ table_reply answered
+  granted : called (take_resends time timeout give_up l) t ≡ table_reply answered
   unfolding reply
-  granted = called-granted (take_resends time timeout giveUp l) t (sym e ∙ not-false x h)
+  granted = called-granted (take_resends time timeout give_up l) t (sym e ∙ not-false x h)
 
-  answer-is : (r : Resent) → r ≡ resent_of (table_reply answered) → r ≡ resends_of t time timeout giveUp l
+  answer-is : (r : Resent) → r ≡ resent_of (table_reply answered) → r ≡ resends_of t time timeout give_up l
   unfolding resends_of
   answer-is r q = q ∙ ap (λ (o : TableReply). resent_of o) (sym granted)
 
-  lent_is : (out : List ℕ) → out ≡ lent answered.answer l → out ≡ resends_lent t time timeout giveUp l
+  lent_is : (out : List ℕ) → out ≡ lent answered.answer l → out ≡ resends_lent t time timeout give_up l
   unfolding resends_lent
   lent_is out q = q ∙ ap (λ (o : TableReply). lent o.answer l) (sym granted)
 
   abbrev places : Bool
-  places = leb (length (flat (rows t time timeout giveUp))) (length l)
+  places = leb (length (flat (rows t time timeout give_up))) (length l)
 
   module _ (late : time < t.latest) where
     late_reply : answered ≡ record { answer = refused time_below; state = abs t }
     unfolding take_resends_s abs
-    late_reply = let q = lt-leb t.latest time late in λ i. resend (q i) places time timeout giveUp (abs t)
+    late_reply = let q = lt-leb t.latest time late in λ i. resend (q i) places time timeout give_up (abs t)
 
-    pub late_is : ◌≡◌ {A = Resent} (record { table = t; code = 3; rows = 0 }) (resends_of t time timeout giveUp l)
+    pub late_is : ◌≡◌ {A = Resent} (record { table = t; code = 3; rows = 0 }) (resends_of t time timeout give_up l)
     late_is =
         let w = tested t x e h in
         answer-is
         (record { table = t; code = 3; rows = 0 })
         ((λ i. record { table = w.form i; code = 3; rows = 0 }) ∙ ap (λ (r : Reply). resent_of (table_reply r)) (sym late_reply))
 
-    pub late_lent : l ≡ resends_lent t time timeout giveUp l
+    pub late_lent : l ≡ resends_lent t time timeout give_up l
     late_lent = lent_is l (ap (λ (r : Reply). lent r.answer l) (sym late_reply))
 
-  module _ (now : t.latest ≤ time) (a b : ℕ) (p : a ≡ length (offs t time timeout giveUp)) (q : b ≡ length (ons t time timeout giveUp)) where
+  module _ (now : t.latest ≤ time) (a b : ℕ) (p : a ≡ length (offs t time timeout give_up)) (q : b ≡ length (ons t time timeout give_up)) where
     module _ (short : length l < 2 * (a + b)) where
       short-reply : answered ≡ record { answer = refused list_too_short; state = model.with_time time (abs t) }
       unfolding take_resends_s abs
       short-reply =
           let m = le-leb t.latest time now in
-          let n = lt-leb (length (flat (rows t time timeout giveUp))) (length l) (omega (arith, numbers-count t time timeout giveUp a b p q)) in
-          λ i. resend (m i) (n i) time timeout giveUp (abs t)
+          let n = lt-leb (length (flat (rows t time timeout give_up))) (length l) (omega (arith, numbers-count t time timeout give_up a b p q)) in
+          λ i. resend (m i) (n i) time timeout give_up (abs t)
 
-      pub short-is : ◌≡◌ {A = Resent} (record { table = time_set time t; code = 12; rows = 0 }) (resends_of t time timeout giveUp l)
+      pub short-is : ◌≡◌ {A = Resent} (record { table = time_set time t; code = 12; rows = 0 }) (resends_of t time timeout give_up l)
       short-is =
           let f = set-form time t (tested t x e h) in
           answer-is
           (record { table = time_set time t; code = 12; rows = 0 })
           ((λ i. record { table = f i; code = 12; rows = 0 }) ∙ ap (λ (r : Reply). resent_of (table_reply r)) (sym short-reply))
 
-      pub short-lent : l ≡ resends_lent t time timeout giveUp l
+      pub short-lent : l ≡ resends_lent t time timeout give_up l
       short-lent = lent_is l (ap (λ (r : Reply). lent r.answer l) (sym short-reply))
 
     module _ (room : 2 * (a + b) ≤ length l) where
       abbrev after : model.State
-      after = model.with_protocol (resent time timeout giveUp (abs t).protocol) (model.with_time time (abs t))
+      after = model.with_protocol (resent time timeout give_up (abs t).protocol) (model.with_time time (abs t))
 
-      sent_reply : answered ≡ record { answer = resends (rows t time timeout giveUp); state = after }
+      sent_reply : answered ≡ record { answer = resends (rows t time timeout give_up); state = after }
       unfolding take_resends_s abs
       sent_reply =
           let m = le-leb t.latest time now in
-          let n = le-leb (length (flat (rows t time timeout giveUp))) (length l) (omega (arith, numbers-count t time timeout giveUp a b p q)) in
-          λ i. resend (m i) (n i) time timeout giveUp (abs t)
+          let n = le-leb (length (flat (rows t time timeout give_up))) (length l) (omega (arith, numbers-count t time timeout give_up a b p q)) in
+          λ i. resend (m i) (n i) time timeout give_up (abs t)
 
-      sent_table : (y : List OffChannel) (z : List OnChannel) → y ≡ offs_sent time timeout giveUp t.offs t.offcount → z ≡ ons_sent time timeout giveUp t.ons t.oncount → with_channels y z (time_set time t) ≡ repr after
+      sent_table : (y : List OffChannel) (z : List OnChannel) → y ≡ offs_sent time timeout give_up t.offs t.offcount → z ≡ ons_sent time timeout give_up t.ons t.oncount → with_channels y z (time_set time t) ≡ repr after
       unfolding repr abs resent offs_sent ons_sent
       sent_table y z u v =
           let w = tested t x e h in
-          let m : t.offcount ≡ length (map (resent_off time timeout giveUp) (abs t).protocol.offs) = form_offcount t w ∙ sym (length-map (abs t).protocol.offs (resent_off time timeout giveUp)) in
-          let n : t.oncount ≡ length (map (resent_on time timeout giveUp) (abs t).protocol.ons) = form_oncount t w ∙ sym (length-map (abs t).protocol.ons (resent_on time timeout giveUp)) in
+          let m : t.offcount ≡ length (map (resent_off time timeout give_up) (abs t).protocol.offs) = form_offcount t w ∙ sym (length-map (abs t).protocol.offs (resent_off time timeout give_up)) in
+          let n : t.oncount ≡ length (map (resent_on time timeout give_up) (abs t).protocol.ons) = form_oncount t w ∙ sym (length-map (abs t).protocol.ons (resent_on time timeout give_up)) in
           λ i. record {
             latest = time;
             forwarding = (w.form i).forwarding;
@@ -187,15 +187,15 @@ module _ (t : Table) (time timeout giveUp : ℕ) (l : List ℕ) (x : Bool) (e : 
             ons = v i;
           }
 
-      pub sent_is : (y : List OffChannel) (z : List OnChannel) → y ≡ offs_sent time timeout giveUp t.offs t.offcount → z ≡ ons_sent time timeout giveUp t.ons t.oncount
-          → ◌≡◌ {A = Resent} (record { table = with_channels y z (time_set time t); code = 0; rows = a + b }) (resends_of t time timeout giveUp l)
+      pub sent_is : (y : List OffChannel) (z : List OnChannel) → y ≡ offs_sent time timeout give_up t.offs t.offcount → z ≡ ons_sent time timeout give_up t.ons t.oncount
+          → ◌≡◌ {A = Resent} (record { table = with_channels y z (time_set time t); code = 0; rows = a + b }) (resends_of t time timeout give_up l)
       sent_is y z u v =
-          let n = rows-count t time timeout giveUp a b p q in
+          let n = rows-count t time timeout give_up a b p q in
           let f = sent_table y z u v in
           answer-is
           (record { table = with_channels y z (time_set time t); code = 0; rows = a + b })
           ((λ i. record { table = f i; code = 0; rows = n i }) ∙ ap (λ (r : Reply). resent_of (table_reply r)) (sym sent_reply))
 
-      pub sent_lent : (l₁ l₂ : List ℕ) → l₁ ≡ written_at 0 (flat (offs t time timeout giveUp)) l → l₂ ≡ written_at (2 * a) (flat (ons t time timeout giveUp)) l₁ → l₂ ≡ resends_lent t time timeout giveUp l
+      pub sent_lent : (l₁ l₂ : List ℕ) → l₁ ≡ written_at 0 (flat (offs t time timeout give_up)) l → l₂ ≡ written_at (2 * a) (flat (ons t time timeout give_up)) l₁ → l₂ ≡ resends_lent t time timeout give_up l
       sent_lent l₁ l₂ u v =
-          lent_is l₂ (all-written t time timeout giveUp a b p q l l₁ l₂ room u v ∙ ap (λ (r : Reply). lent r.answer l) (sym sent_reply))
+          lent_is l₂ (all-written t time timeout give_up a b p q l l₁ l₂ room u v ∙ ap (λ (r : Reply). lent r.answer l) (sym sent_reply))

@@ -26,36 +26,36 @@ nothing_written : (xs : List Resend) (l : List ℕ) → xs ≡ [] → l ≡ writ
 unfolding written_at flat
 nothing_written xs l e = ap (λ (r : List Resend). written_at 0 (flat r) l) (sym e)
 
-module _ (t : Table) (time timeout giveUp : ℕ) (l : List ℕ) (x : Bool) (e : x ≡ wfb t) (h : not x ≡ false) (now : t.latest ≤ time) (b : Bool)
-    (p : b ≡ all_b (off_calm time timeout giveUp) t.offs && all_b (on_calm time timeout giveUp) t.ons) (q : b ≡ true) where
-  offs-calm : all_b (off_calm time timeout giveUp) t.offs ≡ true
-  offs-calm = and_left (all_b (off_calm time timeout giveUp) t.offs) (all_b (on_calm time timeout giveUp) t.ons) (sym p ∙ q)
+module _ (t : Table) (time timeout give_up : ℕ) (l : List ℕ) (x : Bool) (e : x ≡ wfb t) (h : not x ≡ false) (now : t.latest ≤ time) (b : Bool)
+    (p : b ≡ all_b (off_calm time timeout give_up) t.offs && all_b (on_calm time timeout give_up) t.ons) (q : b ≡ true) where
+  offs-calm : all_b (off_calm time timeout give_up) t.offs ≡ true
+  offs-calm = and_left (all_b (off_calm time timeout give_up) t.offs) (all_b (on_calm time timeout give_up) t.ons) (sym p ∙ q)
 
-  ons-calm : all_b (on_calm time timeout giveUp) t.ons ≡ true
-  ons-calm = and_right (all_b (off_calm time timeout giveUp) t.offs) (all_b (on_calm time timeout giveUp) t.ons) (sym p ∙ q)
+  ons-calm : all_b (on_calm time timeout give_up) t.ons ≡ true
+  ons-calm = and_right (all_b (off_calm time timeout give_up) t.offs) (all_b (on_calm time timeout give_up) t.ons) (sym p ∙ q)
 
-  offs_no : off_rows time timeout giveUp t.offs t.offcount ≡ []
+  offs_no : off_rows time timeout give_up t.offs t.offcount ≡ []
   unfolding off_rows
-  offs_no = calm-none off_kind time timeout giveUp 4 t.offs t.offcount (offs-form t x e h) offs-calm
+  offs_no = calm-none off_kind time timeout give_up 4 t.offs t.offcount (offs-form t x e h) offs-calm
 
-  ons_no : on_rows time timeout giveUp t.ons t.oncount ≡ []
+  ons_no : on_rows time timeout give_up t.ons t.oncount ≡ []
   unfolding on_rows
-  ons_no = calm-none on_kind time timeout giveUp 8 t.ons t.oncount (ons-form t x e h) ons-calm
+  ons_no = calm-none on_kind time timeout give_up 8 t.ons t.oncount (ons-form t x e h) ons-calm
 
-  offs_stay : t.offs ≡ offs_sent time timeout giveUp t.offs t.offcount
+  offs_stay : t.offs ≡ offs_sent time timeout give_up t.offs t.offcount
   unfolding offs_sent
-  offs_stay = calm-same off_kind time timeout giveUp 4 t.offs t.offcount (offs-form t x e h) offs-calm
+  offs_stay = calm-same off_kind time timeout give_up 4 t.offs t.offcount (offs-form t x e h) offs-calm
 
-  ons_stay : t.ons ≡ ons_sent time timeout giveUp t.ons t.oncount
+  ons_stay : t.ons ≡ ons_sent time timeout give_up t.ons t.oncount
   unfolding ons_sent
-  ons_stay = calm-same on_kind time timeout giveUp 8 t.ons t.oncount (ons-form t x e h) ons-calm
+  ons_stay = calm-same on_kind time timeout give_up 8 t.ons t.oncount (ons-form t x e h) ons-calm
 
-  pub quiet_is : ◌≡◌ {A = Resent} (record { table = time_set time t; code = 0; rows = 0 }) (resends_of t time timeout giveUp l)
+  pub quiet_is : ◌≡◌ {A = Resent} (record { table = time_set time t; code = 0; rows = 0 }) (resends_of t time timeout give_up l)
   quiet_is =
-      sent_is t time timeout giveUp l x e h now 0 0 (ap length (sym offs_no)) (ap length (sym ons_no)) (omega arith) t.offs t.ons offs_stay ons_stay
+      sent_is t time timeout give_up l x e h now 0 0 (ap length (sym offs_no)) (ap length (sym ons_no)) (omega arith) t.offs t.ons offs_stay ons_stay
 
-  pub quiet_lent : l ≡ resends_lent t time timeout giveUp l
+  pub quiet_lent : l ≡ resends_lent t time timeout give_up l
   quiet_lent =
-      sent_lent t time timeout giveUp l x e h now 0 0 (ap length (sym offs_no)) (ap length (sym ons_no)) (omega arith) l l
-      (nothing_written (off_rows time timeout giveUp t.offs t.offcount) l offs_no)
-      (nothing_written (on_rows time timeout giveUp t.ons t.oncount) l ons_no)
+      sent_lent t time timeout give_up l x e h now 0 0 (ap length (sym offs_no)) (ap length (sym ons_no)) (omega arith) l l
+      (nothing_written (off_rows time timeout give_up t.offs t.offcount) l offs_no)
+      (nothing_written (on_rows time timeout give_up t.ons t.oncount) l ons_no)

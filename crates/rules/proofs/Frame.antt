@@ -11,7 +11,7 @@ use Rattle.packet.specs.declared.OutEntry.{OutEntry}
 use Rattle.packet.specs.declared.Packet.{Packet}
 use Rattle.packet.specs.declared.Record.{Record}
 use Rattle.packet.specs.Data.{Range, no_range, range, range_of, packet}
-use Rattle.model.specs.State.{Group, OffData, with_out, withAcks}
+use Rattle.model.specs.State.{Group, OffData, with_out, with_acks}
 use Rattle.model.specs.Group.{Stored, done, beyond, span, is_first, full, store, stale, stored_in, present, create, is_beyond, in_group, group_at, placed, add_in_packet}
 use Rattle.bundles.specs.declared.Bundles.{Bundles}
 use Rattle.fragments.specs.declared.Groups.{Groups}
@@ -19,7 +19,7 @@ use Rattle.group_rule.specs.Rule.{data_of, within, added}
 
 -- what the rule makes of groups and bundles, with the other two lists beside it
 abbrev pub beside : List OutEntry → List ℕ → Stored → Stored
-beside o a (done d) = done (with_out o (withAcks a d))
+beside o a (done d) = done (with_out o (with_acks a d))
 beside o a beyond = beyond
 
 module _ (d : OffData) where

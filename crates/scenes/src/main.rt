@@ -5,10 +5,10 @@
 mod out;
 
 use std::io;
-use std::io::{BufWriter, Write};
+use std::io::Write;
 
 fn main(rt: HostRuntime) -> io::Result<()> {
-    let mut out = BufWriter::new(rt.alloc(), rt.stdout())?;
+    let mut out = rt.stdout();
     out::limit(&mut out)?;
     out::cumulative(&mut out)?;
     out::half(&mut out)?;

@@ -18,14 +18,14 @@ use Rattle.records.specs.Records.{on_code, drops}
 use Rattle.off_records.specs.OffRecords.{off_code}
 use Rattle.delivery.specs.declared.Aim.{Aim}
 use Rattle.delivery.specs.declared.Beside.{Beside}
-use Rattle.delivery.specs.Delivery.{opened_on, opened_off, withOn, with_off, changed}
+use Rattle.delivery.specs.Delivery.{opened_on, opened_off, with_on, with_off, changed}
 use Rattle.delivery.proofs.Small.{opened_on-wf, opened_off-wf}
 use Rattle.tally.specs.declared.Tally.{Tally}
 use Rattle.tally.specs.Tally.{tallied, answered}
 use Rattle.turn.specs.declared.Course.{Course}
 use Rattle.turn.specs.Turn.{course_of, course_on, course_off, course_past, ended}
 
-pub on-done : (c : Course) (aim : Aim) (v : View) (p : ℕ) (d : Tally) (b : Beside) → d ≡ tallied aim.code v c.done → b ≡ withOn c.beside aim.at v.address v.index aim.new p → course_of d b ≡ course_on c aim v p
+pub on-done : (c : Course) (aim : Aim) (v : View) (p : ℕ) (d : Tally) (b : Beside) → d ≡ tallied aim.code v c.done → b ≡ with_on c.beside aim.at v.address v.index aim.new p → course_of d b ≡ course_on c aim v p
 on-done c aim v p d b e f = λ i. course_of (e i) (f i)
 
 pub off-done : (c : Course) (aim : Aim) (v : View) (p : ℕ) (d : Tally) (b : Beside) → d ≡ tallied aim.code v c.done → b ≡ with_off c.beside aim.at v.address aim.new p → course_of d b ≡ course_off c aim v p

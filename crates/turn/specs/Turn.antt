@@ -8,7 +8,7 @@ use Rattle.calls.specs.declared.Delivered.{Delivered}
 use Rattle.calls.specs.Answers.{no_view}
 use Rattle.delivery.specs.declared.Aim.{Aim}
 use Rattle.delivery.specs.declared.Beside.{Beside}
-use Rattle.delivery.specs.Delivery.{withOn, with_off, changed}
+use Rattle.delivery.specs.Delivery.{with_on, with_off, changed}
 use Rattle.tally.specs.declared.Tally.{Tally}
 use Rattle.tally.specs.Tally.{tallied, answered}
 use Rattle.turn.specs.declared.Course.{Course}
@@ -18,7 +18,7 @@ course_of d b = record { done = d; beside = b }
 
 -- a record whose channel is stored, and one of which none is
 abbrev pub course_on : Course → Aim → View → ℕ → Course
-course_on c aim v p = course_of (tallied aim.code v c.done) (withOn c.beside aim.at v.address v.index aim.new p)
+course_on c aim v p = course_of (tallied aim.code v c.done) (with_on c.beside aim.at v.address v.index aim.new p)
 
 abbrev pub course_off : Course → Aim → View → ℕ → Course
 course_off c aim v p = course_of (tallied aim.code v c.done) (with_off c.beside aim.at v.address aim.new p)

@@ -1,4 +1,4 @@
-// The walks of the calls over lent memory stand in proofs/, whatever the structs are; this crate has no code of its own.
+// Here stood the proofs of the calls over lent memory, whatever the structs are. The check finds them by itself now; this is the crate's one function.
 #![tactic(auto)]
 
 ghost use Rattle.std.specs.Prelude.{◌≡◌};

@@ -168,7 +168,7 @@ module _ (t : Table) (k : Key) (n : Names) (w : Wf t) where
       queue_stays : x.ok ≡ 0 → x.queue ≡ q
       queue_stays z = ap (λ (y : Taken). y.queue) e ∙ ap (λ (o : Option (List ℕ)). (acks.taken_of o q).queue) (lacks (take_written (names_of n) (acks.abs q)) e z)
 
-      gone_is : (u : Table) → (x.ok ≡ 0 → ⊥) → ((qs : List ℕ) → x.queue ≡ acks.repr qs → u ≡ repr (model.with_protocol (put_data k (model.withAcks qs (data_of k (abs t).protocol)) (abs t).protocol) (abs t)))
+      gone_is : (u : Table) → (x.ok ≡ 0 → ⊥) → ((qs : List ℕ) → x.queue ≡ acks.repr qs → u ≡ repr (model.with_protocol (put_data k (model.with_acks qs (data_of k (abs t).protocol)) (abs t).protocol) (abs t)))
           → ◌≡◌ {A = Done} (record { table = u; code = 0 }) (wrote_in t k n)
       unfolding wrote_in
       gone_is u z put = at (take_written (names_of n) (acks.abs q)) refl
@@ -226,8 +226,8 @@ module _ (t : Table) (k : Key) (n : Names) (i at : ℕ) (d : OnChannel) (x : Tak
       gone_is t k n w v (get_or t.ons at d).acks x on_there on_same e (store_on t t.oncount at (on_acks (get_or t.ons at d) x.queue)) z
       (λ qs y.
       (λ j. store_on t t.oncount (at_key j) (on_acks (here j) (y j)))
-      ∙ on_key_store t w k o (on_standing_below t w k i at ki p h) (model.withAcks qs (key_on k pr).off)
-      ∙ ap (λ (a : model.OffData). repr (model.with_protocol (put_data k (model.withAcks qs a) pr) s)) (sym (on_key_data k pr o)))
+      ∙ on_key_store t w k o (on_standing_below t w k i at ki p h) (model.with_acks qs (key_on k pr).off)
+      ∙ ap (λ (a : model.OffData). repr (model.with_protocol (put_data k (model.with_acks qs a) pr) s)) (sym (on_key_data k pr o)))
 
   on_stays : x.ok ≡ 0 → store_on t t.oncount at (on_acks (get_or t.ons at d) x.queue) ≡ t
   on_stays z =
@@ -277,8 +277,8 @@ module _ (t : Table) (k : Key) (n : Names) (at : ℕ) (d : OffChannel) (x : Take
       gone_is t k n w v (get_or t.offs at d).acks x off_there off-same e (store_off t t.offcount at (off_acks (get_or t.offs at d) x.queue)) z
       (λ qs y.
       (λ j. store_off t t.offcount (p j) (off_acks (here j) (y j)))
-      ∙ off_key_store t w k o (off_standing_below t w k at p h) (model.withAcks qs (key_off k pr).off)
-      ∙ ap (λ (a : model.OffData). repr (model.with_protocol (put_data k (model.withAcks qs a) pr) s)) (sym (off_key_data k pr o)))
+      ∙ off_key_store t w k o (off_standing_below t w k at p h) (model.with_acks qs (key_off k pr).off)
+      ∙ ap (λ (a : model.OffData). repr (model.with_protocol (put_data k (model.with_acks qs a) pr) s)) (sym (off_key_data k pr o)))
 
   off_stays : x.ok ≡ 0 → store_off t t.offcount at (off_acks (get_or t.offs at d) x.queue) ≡ t
   off_stays z =
