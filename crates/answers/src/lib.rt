@@ -25,7 +25,8 @@ pub fn deliver(s: State, time: u64, address: u32, r: Record, out: &mut [u8], at:
     let table = d.table;
     let none = held::none_held();
     let state = State { table, held: none };
-    if d.code == 0 {
+    let granted = d.code == 0;
+    if granted {
         let next = writing::write_ok(out, at, d.view);
         return Stepped { state, next };
     }
@@ -48,7 +49,8 @@ pub fn pop(s: State, key: Key, out: &mut [u8], at: usize) -> Stepped
         let next = writing::write_no(out, at, p.code);
         return Stepped { state, next };
     }
-    if p.some == 0 {
+    let is_none = p.some == 0;
+    if is_none {
         let next = writing::write_none(out, at);
         return Stepped { state, next };
     }

@@ -116,7 +116,8 @@ pub fn accept_out(t: Table, time: u64, address: u32, r: Record) -> Found
             let d = off_for(u.offs[at], u.offcount, at, address);
             let s = forwarded::off_forward(d, r, time);
             code = s.code;
-            if code != 11 {
+            let keeps = code != 11;
+            if keeps {
                 let x = s.channel;
                 u.offs[at] = x;
                 u.offcount = channels::counted(u.offcount, at);

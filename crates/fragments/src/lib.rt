@@ -64,7 +64,8 @@ pub fn set(g: Fragments, i: u32, handle: u32, time: u64) -> Fragments
     r.marks[k] = 1;
     r.handles[k] = handle;
     r.updated = time;
-    if m == 0 {
+    let empty = m == 0;
+    if empty {
         r.count = g.count + 1;
     }
     r

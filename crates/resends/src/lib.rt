@@ -56,7 +56,8 @@ pub fn take_resends(t: Table, time: u64, timeout: u64, give_up: u64, lent: &mut 
     if !table_test::well_formed(t) {
         return refused(t, 1);
     }
-    if time < t.latest {
+    let below = time < t.latest;
+    if below {
         return refused(t, 3);
     }
     if quiet::quiet(t, time, timeout, give_up) {

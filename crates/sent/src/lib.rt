@@ -94,7 +94,8 @@ fn send_loose(a: Left, v: View, time: u64, offset: u32, count: u32) -> Left
     let mut p = answer(v, offset, a.source);
     let mut b = a;
     b.latest = time;
-    if count <= 1 {
+    let single = count <= 1;
+    if single {
         p.allocated = 0;
         p.first = 0;
         b.prepared = p;

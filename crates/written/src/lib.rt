@@ -52,7 +52,8 @@ fn front_code(good: bool, k: Key, count: u32) -> u32
     if !k.well_made() {
         return 2;
     }
-    if 64 < count {
+    let too_many = 64 < count;
+    if too_many {
         return 2;
     }
     0

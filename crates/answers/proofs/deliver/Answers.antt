@@ -3,8 +3,8 @@ use Rattle.answers.proofs.Answers.{in_ok, in_no}
 use borrow.Author.Rules.{rules}
 use Rattle.answers.proofs.deliver.Goals as goal
 
-pub returns-then-d-eq0 : goal.returns-then-d-eq0
-returns-then-d-eq0 c = in_ok c.args.s _ _ c.args.r _ _ _ _ _ _ _ c.added.ensures c.accept-d.ensures c.none_held-none.ensures c.if-d-eq0.true c.write_ok-next.ensures
+pub returns-then-granted : goal.returns-then-granted
+returns-then-granted c = in_ok c.args.s _ _ c.args.r _ _ _ _ _ _ _ c.added.ensures c.accept-d.ensures c.none_held-none.ensures c.if-granted.true c.write_ok-next.ensures
 
 pub returns : goal.returns
-returns c = in_no c.args.s _ _ c.args.r _ _ _ _ _ _ _ c.added.ensures c.accept-d.ensures c.none_held-none.ensures c.if-d-eq0.false c.write_no-next.ensures
+returns c = in_no c.args.s _ _ c.args.r _ _ _ _ _ _ _ c.added.ensures c.accept-d.ensures c.none_held-none.ensures c.if-granted.false c.write_no-next.ensures

@@ -8,12 +8,12 @@ use Rattle.answers.proofs.pop.Goals as goal
 pub returns-then-p-ne0 : goal.returns-then-p-ne0
 returns-then-p-ne0 c = pop_no c.args.s c.args.key _ _ _ _ _ _ c.next_bundle-p.ensures.value c.next_bundle-p.ensures.lent_after c.if-p-ne0.true c.write_no-next.ensures
 
-pub returns-then-p-eq0 : goal.returns-then-p-eq0
-returns-then-p-eq0 c = pop_none c.args.s c.args.key _ _ _ _ _ _ c.next_bundle-p.ensures.value c.next_bundle-p.ensures.lent_after c.if-p-ne0.false c.if-p-eq0.true c.write_none-next.ensures
+pub returns-then-is_none : goal.returns-then-is_none
+returns-then-is_none c = pop_none c.args.s c.args.key _ _ _ _ _ _ c.next_bundle-p.ensures.value c.next_bundle-p.ensures.lent_after c.if-p-ne0.false c.if-is_none.true c.write_none-next.ensures
 
 pub write_bundle-next-requires : goal.write_bundle-next-requires
 write_bundle-next-requires c = let m : c.next_bundle-p.result.len ≤ 64 = popped-short c.args.s.table c.args.key places c.next_bundle-p.result c.next_bundle-p.ensures.value in
     (m, search rules, search rules)
 
 pub returns : goal.returns
-returns c = pop_some c.args.s c.args.key _ _ _ _ _ _ c.next_bundle-p.ensures.value c.next_bundle-p.ensures.lent_after c.if-p-ne0.false c.if-p-eq0.false c.write_bundle-next.ensures
+returns c = pop_some c.args.s c.args.key _ _ _ _ _ _ c.next_bundle-p.ensures.value c.next_bundle-p.ensures.lent_after c.if-p-ne0.false c.if-is_none.false c.write_bundle-next.ensures

@@ -14,8 +14,8 @@ bounds-r-k-2 c = search place-index
 pub overflow_add-r : goal.overflow_add-r
 overflow_add-r c = search count_fits
 
-pub returns-then-m-eq0 : goal.returns-then-m-eq0
-returns-then-m-eq0 c = search set-empty
+pub returns-then-empty : goal.returns-then-empty
+returns-then-empty c = search set-empty
 
-pub returns-else-m-eq0 : goal.returns-else-m-eq0
-returns-else-m-eq0 c = search set-filled
+pub returns-else-empty : goal.returns-else-empty
+returns-else-empty c = search set-filled

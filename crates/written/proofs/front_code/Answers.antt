@@ -8,8 +8,8 @@ returns-then-not-good c = search fronting
 pub returns-then-not-well_made : goal.returns-then-not-well_made
 returns-then-not-well_made c = search fronting
 
-pub returns-then-count-gt64 : goal.returns-then-count-gt64
-returns-then-count-gt64 c = search fronting
+pub returns-then-too_many : goal.returns-then-too_many
+returns-then-too_many c = search fronting
 
 pub returns : goal.returns
 returns c = search fronting
