@@ -4,7 +4,7 @@
     check/mixed.py                                       its stored output, against the model
     check/mixed.py --oracle target/oracle/original       and the same history, put to the original
 
-The program draws 2,000 steps over every call from their numbers alone (crates/draw/src/lib.rt), and so does this file.
+The program draws 2,000 steps over every call from their numbers alone (crates/mixed_history/src/draw.rt), and so does this file.
 The model (model.py) gives each step's answer, and the words of the table after it, whose sum must be the program's. The
 history is also a script, with the whole state asked for after every tenth step; what only the port refuses is withheld
 from the original (compare.py). The 100 lines at the end are calls on a table that is not well formed: each answers 1, and
@@ -27,7 +27,7 @@ STORED = os.path.join(ROOT, "crates", "mixed_history", "stdout")
 STEPS = 2000
 PRIME = 4294967291
 
-# ---- What is drawn, as in the crate draw
+# ---- What is drawn, as in mixed_history
 
 
 def pick(step, part, choice, n):

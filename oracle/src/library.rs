@@ -1,6 +1,6 @@
 //! The functions that the proved library exports.
 
-#[link(name = "seq", kind = "static")]
+#[link(name = "seq_c", kind = "static")]
 unsafe extern "C" {
     safe fn relay_seq_compare(a: u32, b: u32) -> u32;
     safe fn relay_seq_add(a: u32, n: u32) -> u32;
@@ -15,7 +15,6 @@ struct SeqAlloc {
     next: u32,
 }
 
-#[link(name = "lent", kind = "static")]
 unsafe extern "C" {
     safe fn relay_alloc(a: &mut SeqAlloc, count: u32) -> u32;
     safe fn relay_observe(a: &mut SeqAlloc, num: u32);

@@ -2,12 +2,13 @@
 use mathlib.Core.Path.{◌≡◌, refl, ap, sym, ◌∙◌}
 use mathlib.Core.Bool.{Bool, true, false, cond, not, ◌&&◌, true≢false, false≢true}
 use mathlib.Core.List.{List, [], ◌∷◌}
-use mathlib.Core.Option.{Option, none, some}
+use Rattle.std.specs.declared.option.Option.{Option}
+use Rattle.std.specs.declared.option.Option.TheVariants.{None, Some}
 use Prim.Native.Nat.{ℕ}
 use lib.Dec.{leb}
 use lib.ListN.{length}
 use borrow.Author.Tests.{not-true}
-use Rattle.lists.proofs.Pad.{and_left, and_right}
+use Rattle.list.proofs.Pad.{and_left, and_right}
 use Rattle.packet.specs.declared.Record.{Record}
 use Rattle.packet.specs.declared.Key.{Key}
 use Rattle.packet.specs.Data.{is_set, index_of, key_index, well_made, key_made}
@@ -198,12 +199,12 @@ rust_wrote_of k ns p = rust_wrote (take_written ns (rust.data_of k p).acks) k p
 -- the queue of a channel that is there; the answer on an absent one is an added refusal
 module _ (k : Key) (ns : List ℕ) (s : State) where
   wrote-here : (o : Option (List ℕ)) → added_answer (port.wrote o k s).answer ≡ false → rust.has_key k s.protocol ≡ true → Same (rust_wrote o k s.protocol) (port.wrote o k s)
-  wrote-here none n e = absurd (true≢false n)
-  wrote-here (some qs) n e = rw e
+  wrote-here None n e = absurd (true≢false n)
+  wrote-here (Some qs) n e = rw e
 
   wrote_absent : (o : Option (List ℕ)) → rust.has_key k s.protocol ≡ false → added_answer (port.wrote o k s).answer ≡ true
-  wrote_absent none e = refl
-  wrote_absent (some qs) e = rw e
+  wrote_absent None e = refl
+  wrote_absent (Some qs) e = rw e
 
   wrote-queue : (here : Bool) → rust.has_key k s.protocol ≡ here → added_answer (port.wrote (take_written ns (port.queue_if here k s)) k s).answer ≡ false → Same (rust_wrote_of k ns (rust.made k s.protocol)) (port.wrote (take_written ns (port.queue_if here k s)) k s)
   wrote-queue true e n = ap (rust_wrote_of k ns) (made-here k s.protocol e) ∙ wrote-here (take_written ns (rust.data_of k s.protocol).acks) n e
@@ -256,7 +257,7 @@ lent_agrees e s l h = ap (λ (x : Rust). rust_lent x l) (reply_agrees e s h)
 
 -- ---- histories
 
-agrees_from : (es : List Call) (s : State) → all_in_domain es s ≡ true → rust_run es s.protocol ≡ some (record { answers = (run es s).answers; protocol = (run es s).state.protocol })
+agrees_from : (es : List Call) (s : State) → all_in_domain es s ≡ true → rust_run es s.protocol ≡ Some (record { answers = (run es s).answers; protocol = (run es s).state.protocol })
 unfolding run rust_run all_in_domain
 agrees_from [] s h = refl
 agrees_from (e ∷ es) s h =
@@ -265,7 +266,7 @@ agrees_from (e ∷ es) s h =
     rw (reply_agrees e s here, agrees_from es (reply e s).state later)
 
 -- demand 2: along every history from a new table that stays in the domain, all answers and the protocol are the same
-pub agrees : (f : Bool) (es : List Call) → all_in_domain es (new f) ≡ true → rust_run es (new_protocol f) ≡ some (record { answers = (run es (new f)).answers; protocol = (run es (new f)).state.protocol })
+pub agrees : (f : Bool) (es : List Call) → all_in_domain es (new f) ≡ true → rust_run es (new_protocol f) ≡ Some (record { answers = (run es (new f)).answers; protocol = (run es (new f)).state.protocol })
 agrees f es h = agrees_from es (new f) h
 
 all-inside : (es : List Call) (s : State) → all_in_domain (inside es s) s ≡ true

@@ -5,9 +5,9 @@ use Prim.Native.Nat.{ℕ, ◌<◌}
 use native.Mathlib.Omega.{arith}
 use lib.Dec.{ltb, eqb}
 use borrow.Author.Tests.{eqb-true, ltb-true}
-use Rattle.lists.specs.Find.{put_by}
-use Rattle.lists.proofs.Pad.{and_left, and_right}
-use Rattle.lists.proofs.Find.{find-passes, find_absent, put_found}
+use Rattle.list.specs.Find.{put_by}
+use Rattle.list.proofs.Pad.{and_left, and_right}
+use Rattle.list.proofs.Find.{find-passes, find_absent, put_found}
 use Rattle.packet.specs.declared.Key.{Key}
 use Rattle.packet.specs.Data.{is_set, key_index}
 use Rattle.model.specs.State.{OnChannel, Protocol, new_off, new_on, is_off, is_on, has_off, has_on, off_at, on_at, put_off, put_on}

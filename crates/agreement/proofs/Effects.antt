@@ -2,19 +2,21 @@
 use mathlib.Core.Path.{◌≡◌, refl, ap, sym, ◌∙◌}
 use mathlib.Core.Bool.{Bool, true, false, ◌||◌, true≢false, false≢true}
 use mathlib.Core.List.{List, [], ◌∷◌, ◌++◌}
-use mathlib.Core.Option.{Option, none, some}
+use Rattle.std.specs.declared.option.Option.{Option}
+use Rattle.std.specs.declared.option.Option.TheVariants.{None, Some}
 use Prim.Native.Nat.{ℕ}
 use lib.Dec.{leb, eqb}
 use lib.ListN.{length}
 use borrow.Author.Tests.{eqb-true}
-use Rattle.lists.specs.Pad.{all_b}
-use Rattle.lists.specs.Find.{has}
-use Rattle.lists.proofs.Pad.{never, and_left, and_right}
+use Rattle.list.specs.Pad.{all_b}
+use Rattle.list.specs.Find.{has}
+use Rattle.list.proofs.Pad.{never, and_left, and_right}
 use Rattle.packet.specs.declared.Record.{Record}
 use Rattle.packet.specs.declared.Key.{Key}
 use Rattle.packet.specs.Data.{is_set, index_of, key_index, well_made, key_made}
 use Rattle.model.specs.State.{Protocol, State, with_time}
-use Rattle.model.specs.Refusals.{Refusal, not_well_formed, out_of_range, time_below, channel_absent, table_full, old_version, cumulative_off, last_on_reliable, last_not_expected, last_off, beyond_group, over_limit, list_too_short, number, Change, nothing, time, prefix, channel, acks, Stages, stage, changes, left}
+use Rattle.packet.specs.declared.Refusal.TheVariants.{NotWellFormed, OutOfRange, TimeBelow, ChannelAbsent, TableFull, OldVersion, CumulativeOff, LastOnReliable, LastNotExpected, LastOff, BeyondGroup, OverLimit, ListTooShort}
+use Rattle.model.specs.Refusals.{Refusal, number, Change, nothing, time, prefix, channel, acks, Stages, stage, changes, left}
 use Rattle.model.specs.Acks.{take_written}
 use Rattle.model.specs.Record.{Outcome, granted, rejected, far_fragment, bare_run}
 use Rattle.model.specs.Room.{fits}
@@ -44,85 +46,85 @@ among_more (n ∷ ns) ms c x h = at (eqb n (number x)) refl h (λ k. among_more 
 -- a record's refusals, from 4 on, are not a whole delivery's
 not_whole : (x : Refusal) → among (numbers_of_record true) x ≡ true → among (2 ∷ 3 ∷ []) x ≡ true → ⊥
 unfolding has
-not_whole not_well_formed h g = absurd (false≢true h)
-not_whole out_of_range h g = absurd (false≢true h)
-not_whole time_below h g = absurd (false≢true h)
-not_whole channel_absent h g = absurd (false≢true h)
-not_whole table_full h g = absurd (false≢true g)
-not_whole old_version h g = absurd (false≢true g)
-not_whole cumulative_off h g = absurd (false≢true g)
-not_whole last_on_reliable h g = absurd (false≢true g)
-not_whole last_not_expected h g = absurd (false≢true g)
-not_whole last_off h g = absurd (false≢true g)
-not_whole beyond_group h g = absurd (false≢true g)
-not_whole over_limit h g = absurd (false≢true g)
-not_whole list_too_short h g = absurd (false≢true h)
+not_whole NotWellFormed h g = absurd (false≢true h)
+not_whole OutOfRange h g = absurd (false≢true h)
+not_whole TimeBelow h g = absurd (false≢true h)
+not_whole ChannelAbsent h g = absurd (false≢true h)
+not_whole TableFull h g = absurd (false≢true g)
+not_whole OldVersion h g = absurd (false≢true g)
+not_whole CumulativeOff h g = absurd (false≢true g)
+not_whole LastOnReliable h g = absurd (false≢true g)
+not_whole LastNotExpected h g = absurd (false≢true g)
+not_whole LastOff h g = absurd (false≢true g)
+not_whole BeyondGroup h g = absurd (false≢true g)
+not_whole OverLimit h g = absurd (false≢true g)
+not_whole ListTooShort h g = absurd (false≢true h)
 
 -- ---- the rows
 
 left-nothing : (w : Stages State) (x : Refusal) → among (2 ∷ 3 ∷ []) x ≡ true → left x w ≡ w.nothing
 unfolding has
-left-nothing w not_well_formed h = absurd (false≢true h)
-left-nothing w out_of_range h = refl
-left-nothing w time_below h = refl
-left-nothing w channel_absent h = absurd (false≢true h)
-left-nothing w table_full h = absurd (false≢true h)
-left-nothing w old_version h = absurd (false≢true h)
-left-nothing w cumulative_off h = absurd (false≢true h)
-left-nothing w last_on_reliable h = absurd (false≢true h)
-left-nothing w last_not_expected h = absurd (false≢true h)
-left-nothing w last_off h = absurd (false≢true h)
-left-nothing w beyond_group h = absurd (false≢true h)
-left-nothing w over_limit h = absurd (false≢true h)
-left-nothing w list_too_short h = absurd (false≢true h)
+left-nothing w NotWellFormed h = absurd (false≢true h)
+left-nothing w OutOfRange h = refl
+left-nothing w TimeBelow h = refl
+left-nothing w ChannelAbsent h = absurd (false≢true h)
+left-nothing w TableFull h = absurd (false≢true h)
+left-nothing w OldVersion h = absurd (false≢true h)
+left-nothing w CumulativeOff h = absurd (false≢true h)
+left-nothing w LastOnReliable h = absurd (false≢true h)
+left-nothing w LastNotExpected h = absurd (false≢true h)
+left-nothing w LastOff h = absurd (false≢true h)
+left-nothing w BeyondGroup h = absurd (false≢true h)
+left-nothing w OverLimit h = absurd (false≢true h)
+left-nothing w ListTooShort h = absurd (false≢true h)
 
 left-time : (w : Stages State) (x : Refusal) → among (13 ∷ 4 ∷ 10 ∷ 11 ∷ 12 ∷ []) x ≡ true → left x w ≡ w.time
 unfolding has
-left-time w not_well_formed h = absurd (false≢true h)
-left-time w out_of_range h = absurd (false≢true h)
-left-time w time_below h = absurd (false≢true h)
-left-time w channel_absent h = refl
-left-time w table_full h = refl
-left-time w old_version h = absurd (false≢true h)
-left-time w cumulative_off h = absurd (false≢true h)
-left-time w last_on_reliable h = absurd (false≢true h)
-left-time w last_not_expected h = absurd (false≢true h)
-left-time w last_off h = absurd (false≢true h)
-left-time w beyond_group h = refl
-left-time w over_limit h = refl
-left-time w list_too_short h = refl
+left-time w NotWellFormed h = absurd (false≢true h)
+left-time w OutOfRange h = absurd (false≢true h)
+left-time w TimeBelow h = absurd (false≢true h)
+left-time w ChannelAbsent h = refl
+left-time w TableFull h = refl
+left-time w OldVersion h = absurd (false≢true h)
+left-time w CumulativeOff h = absurd (false≢true h)
+left-time w LastOnReliable h = absurd (false≢true h)
+left-time w LastNotExpected h = absurd (false≢true h)
+left-time w LastOff h = absurd (false≢true h)
+left-time w BeyondGroup h = refl
+left-time w OverLimit h = refl
+left-time w ListTooShort h = refl
 
 left-acks : (w : Stages State) (x : Refusal) → among (7 ∷ 8 ∷ 9 ∷ []) x ≡ true → left x w ≡ w.acks
 unfolding has
-left-acks w not_well_formed h = absurd (false≢true h)
-left-acks w out_of_range h = absurd (false≢true h)
-left-acks w time_below h = absurd (false≢true h)
-left-acks w channel_absent h = absurd (false≢true h)
-left-acks w table_full h = absurd (false≢true h)
-left-acks w old_version h = absurd (false≢true h)
-left-acks w cumulative_off h = absurd (false≢true h)
-left-acks w last_on_reliable h = refl
-left-acks w last_not_expected h = refl
-left-acks w last_off h = refl
-left-acks w beyond_group h = absurd (false≢true h)
-left-acks w over_limit h = absurd (false≢true h)
-left-acks w list_too_short h = absurd (false≢true h)
+left-acks w NotWellFormed h = absurd (false≢true h)
+left-acks w OutOfRange h = absurd (false≢true h)
+left-acks w TimeBelow h = absurd (false≢true h)
+left-acks w ChannelAbsent h = absurd (false≢true h)
+left-acks w TableFull h = absurd (false≢true h)
+left-acks w OldVersion h = absurd (false≢true h)
+left-acks w CumulativeOff h = absurd (false≢true h)
+left-acks w LastOnReliable h = refl
+left-acks w LastNotExpected h = refl
+left-acks w LastOff h = refl
+left-acks w BeyondGroup h = absurd (false≢true h)
+left-acks w OverLimit h = absurd (false≢true h)
+left-acks w ListTooShort h = absurd (false≢true h)
 
 left-channel : (w : Stages State) (x : Refusal) → among own_out x ≡ true → left x w ≡ w.channel
 unfolding has
-left-channel w not_well_formed h = absurd (false≢true h)
-left-channel w out_of_range h = absurd (false≢true h)
-left-channel w time_below h = absurd (false≢true h)
-left-channel w channel_absent h = absurd (false≢true h)
-left-channel w table_full h = absurd (false≢true h)
-left-channel w old_version h = absurd (false≢true h)
-left-channel w cumulative_off h = refl
-left-channel w last_on_reliable h = absurd (false≢true h)
-left-channel w last_not_expected h = absurd (false≢true h)
-left-channel w last_off h = absurd (false≢true h)
-left-channel w beyond_group h = absurd (false≢true h)
-left-channel w over_limit h = absurd (false≢true h)
-left-channel w list_too_short h = absurd (false≢true h)
+left-channel w NotWellFormed h = absurd (false≢true h)
+left-channel w OutOfRange h = absurd (false≢true h)
+left-channel w TimeBelow h = absurd (false≢true h)
+left-channel w ChannelAbsent h = absurd (false≢true h)
+left-channel w TableFull h = absurd (false≢true h)
+left-channel w OldVersion h = absurd (false≢true h)
+left-channel w CumulativeOff h = refl
+left-channel w LastOnReliable h = absurd (false≢true h)
+left-channel w LastNotExpected h = absurd (false≢true h)
+left-channel w LastOff h = absurd (false≢true h)
+left-channel w BeyondGroup h = absurd (false≢true h)
+left-channel w OverLimit h = absurd (false≢true h)
+left-channel w ListTooShort h = absurd (false≢true h)
 
 stage-untimed : (c : Change) (s : State) → stage c (untimed s) ≡ s
 stage-untimed nothing s = refl
@@ -173,8 +175,8 @@ granting a s w ns n x e = absurd (true≢false (sym (ap is_refused e) ∙ n))
 find_regular : (k : Key) (s : State) (made place : Bool) → Regular (untimed s) (2 ∷ 4 ∷ []) (port.find made place k s)
 unfolding has
 find_regular k s true true = granting _ _ (untimed s) (2 ∷ 4 ∷ []) refl
-find_regular k s true false = refusing table_full (untimed s) (2 ∷ 4 ∷ []) refl
-find_regular k s false place = refusing out_of_range (untimed s) (2 ∷ 4 ∷ []) refl
+find_regular k s true false = refusing TableFull (untimed s) (2 ∷ 4 ∷ []) refl
+find_regular k s false place = refusing OutOfRange (untimed s) (2 ∷ 4 ∷ []) refl
 
 module _ (k : Key) (places : ℕ) (s : State) where
   abbrev next_numbers : List ℕ
@@ -183,7 +185,7 @@ module _ (k : Key) (places : ℕ) (s : State) where
   hand_regular : (fit : Bool) (b : List ℕ) (bs : List (List ℕ)) → Regular (untimed s) next_numbers (port.hand_out fit k b bs s)
   unfolding has
   hand_regular true b bs = granting _ _ (untimed s) next_numbers refl
-  hand_regular false b bs = refusing list_too_short (untimed s) next_numbers refl
+  hand_regular false b bs = refusing ListTooShort (untimed s) next_numbers refl
 
   pop_regular : (bs : List (List ℕ)) → Regular (untimed s) next_numbers (port.next bs k places s)
   pop_regular [] = granting no_bundle s (untimed s) next_numbers refl
@@ -192,8 +194,8 @@ module _ (k : Key) (places : ℕ) (s : State) where
   next_regular : (made here : Bool) → Regular (untimed s) next_numbers (port.next_of made here k places s)
   unfolding has
   next_regular true true = pop_regular (rust.data_of k s.protocol).bundles
-  next_regular true false = refusing channel_absent (untimed s) next_numbers refl
-  next_regular false here = refusing out_of_range (untimed s) next_numbers refl
+  next_regular true false = refusing ChannelAbsent (untimed s) next_numbers refl
+  next_regular false here = refusing OutOfRange (untimed s) next_numbers refl
 
 module _ (t : ℕ) (k : Key) (reliable : Bool) (hs : List ℕ) (s : State) where
   abbrev send_numbers : List ℕ
@@ -202,14 +204,14 @@ module _ (t : ℕ) (k : Key) (reliable : Bool) (hs : List ℕ) (s : State) where
   send-room : (fit : Bool) → Regular (timed t s) send_numbers (port.room_send fit t k reliable hs s)
   unfolding has
   send-room true = granting _ _ (timed t s) send_numbers refl
-  send-room false = refusing over_limit (timed t s) send_numbers refl
+  send-room false = refusing OverLimit (timed t s) send_numbers refl
 
   send_regular : (made in_time here : Bool) → Regular (timed t s) send_numbers (port.send made in_time here t k reliable hs s)
   unfolding has
   send_regular true true true = send-room (fits (rust.prepared t k reliable hs s.protocol))
-  send_regular true true false = refusing channel_absent (timed t s) send_numbers refl
-  send_regular true false here = refusing time_below (timed t s) send_numbers refl
-  send_regular false in_time here = refusing out_of_range (timed t s) send_numbers refl
+  send_regular true true false = refusing ChannelAbsent (timed t s) send_numbers refl
+  send_regular true false here = refusing TimeBelow (timed t s) send_numbers refl
+  send_regular false in_time here = refusing OutOfRange (timed t s) send_numbers refl
 
 module _ (k : Key) (s : State) where
   abbrev wrote_numbers : List ℕ
@@ -218,23 +220,23 @@ module _ (k : Key) (s : State) where
   wrote-here : (here : Bool) (qs : List ℕ) → Regular (untimed s) wrote_numbers (port.wrote_if here qs k s)
   unfolding has
   wrote-here true qs = granting _ _ (untimed s) wrote_numbers refl
-  wrote-here false qs = refusing channel_absent (untimed s) wrote_numbers refl
+  wrote-here false qs = refusing ChannelAbsent (untimed s) wrote_numbers refl
 
   wrote-left : (o : Option (List ℕ)) → Regular (untimed s) wrote_numbers (port.wrote o k s)
   unfolding has
-  wrote-left none = refusing out_of_range (untimed s) wrote_numbers refl
-  wrote-left (some qs) = wrote-here (rust.has_key k s.protocol) qs
+  wrote-left None = refusing OutOfRange (untimed s) wrote_numbers refl
+  wrote-left (Some qs) = wrote-here (rust.has_key k s.protocol) qs
 
   wrote_regular : (ns : List ℕ) (made : Bool) → Regular (untimed s) wrote_numbers (port.wrote_of made k ns s)
   unfolding has
   wrote_regular ns true = wrote-left (take_written ns (port.queue_if (rust.has_key k s.protocol) k s))
-  wrote_regular ns false = refusing out_of_range (untimed s) wrote_numbers refl
+  wrote_regular ns false = refusing OutOfRange (untimed s) wrote_numbers refl
 
 resend_regular : (t timeout give_up : ℕ) (s : State) (in_time room : Bool) → Regular (timed t s) (3 ∷ 12 ∷ []) (port.resend in_time room t timeout give_up s)
 unfolding has
 resend_regular t timeout give_up s true true = granting _ _ (timed t s) (3 ∷ 12 ∷ []) refl
-resend_regular t timeout give_up s true false = refusing list_too_short (timed t s) (3 ∷ 12 ∷ []) refl
-resend_regular t timeout give_up s false room = refusing time_below (timed t s) (3 ∷ 12 ∷ []) refl
+resend_regular t timeout give_up s true false = refusing ListTooShort (timed t s) (3 ∷ 12 ∷ []) refl
+resend_regular t timeout give_up s false room = refusing TimeBelow (timed t s) (3 ∷ 12 ∷ []) refl
 
 module _ (t a : ℕ) (r : Record) (s : State) where
   abbrev out_numbers : List ℕ
@@ -243,7 +245,7 @@ module _ (t a : ℕ) (r : Record) (s : State) where
   out-room : (fit : Bool) (p : Protocol) → Regular (out_stages t a r s) out_numbers (port.room_out fit t a r p s)
   unfolding has
   out-room true p = granting _ _ (out_stages t a r s) out_numbers refl
-  out-room false p = refusing over_limit (out_stages t a r s) out_numbers refl
+  out-room false p = refusing OverLimit (out_stages t a r s) out_numbers refl
 
   out_judged : (o : Outcome Protocol) → Leaves own_out (out_stages t a r s) o → Regular (out_stages t a r s) out_numbers (port.judge_out o t a r s)
   unfolding has all_b
@@ -255,9 +257,9 @@ module _ (t a : ℕ) (r : Record) (s : State) where
   out_regular : (made in_time place : Bool) → Regular (out_stages t a r s) out_numbers (port.forward made in_time place t a r s)
   unfolding has
   out_regular true true true = out_judged (rust.accept_out t a r s.protocol) (out_outcome t a r s)
-  out_regular true true false = refusing table_full (out_stages t a r s) out_numbers refl
-  out_regular true false place = refusing time_below (out_stages t a r s) out_numbers refl
-  out_regular false in_time place = refusing out_of_range (out_stages t a r s) out_numbers refl
+  out_regular true true false = refusing TableFull (out_stages t a r s) out_numbers refl
+  out_regular true false place = refusing TimeBelow (out_stages t a r s) out_numbers refl
+  out_regular false in_time place = refusing OutOfRange (out_stages t a r s) out_numbers refl
 
 -- a delivery answers `undelivered`
 delivery-answer : (x : Result) (n : ℕ) → is_refused (delivery_answer x n) ≡ false
@@ -300,24 +302,24 @@ module _ (t a : ℕ) (r : Record) (s : State) where
   record_room : (fit : Bool) (p : Protocol) → RecordRegular made (port.room_record fit a r p s)
   unfolding has
   record_room true p = λ x e. never (cc)
-  record_room false p = record_refusing over_limit made refl
+  record_room false p = record_refusing OverLimit made refl
 
   record_judged : (o : Outcome Protocol) → Leaves own_record (record_stages a r s) o → RecordRegular made (port.judge_record o a r s)
   unfolding has all_b
   record_judged (granted p) l = record_room (fits p) p
   record_judged (rejected x p) l = record_refusing x made (among_more own_record made refl x l.1)
-  record_judged far_fragment l = record_refusing beyond_group made refl
+  record_judged far_fragment l = record_refusing BeyondGroup made refl
   record_judged (bare_run p) l = record_room (fits p) p
 
   record_placed : (place : Bool) → RecordRegular made (port.place_record place t a r s)
   unfolding has
   record_placed true = record_judged (rust.accept_record t a r s.protocol) (record_outcome t a r s)
-  record_placed false = record_refusing table_full made refl
+  record_placed false = record_refusing TableFull made refl
 
   record_made : (b : Bool) → RecordRegular (numbers_of_record b) (port.made_record b t a r s)
   unfolding has
   record_made true = record_placed (port.has_place (is_set r.on) a (index_of r) s.protocol)
-  record_made false = record_refusing out_of_range (2 ∷ []) refl
+  record_made false = record_refusing OutOfRange (2 ∷ []) refl
 
   record_regular : RecordRegular (numbers_of_record (well_made r)) (record_step t a r s)
   unfolding record_step
@@ -363,8 +365,8 @@ module _ (t a : ℕ) (rs : List Record) (s : State) (x : Refusal) (n : ℕ) wher
   numbers : (made in_time : Bool) → delivery_made rs ≡ made → (port.deliver made in_time t a rs s).answer ≡ undelivered x n → among (numbers_of (calls.accept t a rs)) x ≡ true
   unfolding has all_b
   numbers true true m e = among_more (numbers_of_record true) (numbers_of (calls.accept t a rs)) refl x (played-numbers m e)
-  numbers true false m e = let same : time_below ≡ x = cc in rw (← same)
-  numbers false in_time m e = let same : out_of_range ≡ x = cc in rw (← same)
+  numbers true false m e = let same : TimeBelow ≡ x = cc in rw (← same)
+  numbers false in_time m e = let same : OutOfRange ≡ x = cc in rw (← same)
 
 module _ (t a : ℕ) (qs : List Record) (r : Record) (s : State) (x : Refusal) (n : ℕ) where
   abbrev these : List Record
@@ -380,8 +382,8 @@ module _ (t a : ℕ) (qs : List Record) (r : Record) (s : State) (x : Refusal) (
       let y = play t a these (with_time t s) in
       let res : last_result y.results ≡ refuses x = refused_last (last_result y.results) (count y.results) n x e in
       last_state t a qs r (with_time t s) ∙ (record_regular t a r earlier x (sym (last_result_lem t a qs r (with_time t s)) ∙ res)).0
-  own_record_lem true false e h = let same : time_below ≡ x = cc in absurd (true≢false (rw (← same) at h))
-  own_record_lem false in_time e h = let same : out_of_range ≡ x = cc in absurd (true≢false (rw (← same) at h))
+  own_record_lem true false e h = let same : TimeBelow ≡ x = cc in absurd (true≢false (rw (← same) at h))
+  own_record_lem false in_time e h = let same : OutOfRange ≡ x = cc in absurd (true≢false (rw (← same) at h))
 
 -- ---- the latest time
 
@@ -460,19 +462,19 @@ at-time ns c w x h = left-time w x (among_more ns (13 ∷ 4 ∷ 10 ∷ 11 ∷ 12
 
 at_record : (a : ℕ) (r : Record) (s : State) (x : Refusal) → among (2 ∷ 4 ∷ 10 ∷ 11 ∷ []) x ≡ true → left x (record_stages a r s) ≡ s
 unfolding has
-at_record a r s not_well_formed h = absurd (false≢true h)
-at_record a r s out_of_range h = refl
-at_record a r s time_below h = absurd (false≢true h)
-at_record a r s channel_absent h = absurd (false≢true h)
-at_record a r s table_full h = refl
-at_record a r s old_version h = absurd (false≢true h)
-at_record a r s cumulative_off h = absurd (false≢true h)
-at_record a r s last_on_reliable h = absurd (false≢true h)
-at_record a r s last_not_expected h = absurd (false≢true h)
-at_record a r s last_off h = absurd (false≢true h)
-at_record a r s beyond_group h = refl
-at_record a r s over_limit h = refl
-at_record a r s list_too_short h = absurd (false≢true h)
+at_record a r s NotWellFormed h = absurd (false≢true h)
+at_record a r s OutOfRange h = refl
+at_record a r s TimeBelow h = absurd (false≢true h)
+at_record a r s ChannelAbsent h = absurd (false≢true h)
+at_record a r s TableFull h = refl
+at_record a r s OldVersion h = absurd (false≢true h)
+at_record a r s CumulativeOff h = absurd (false≢true h)
+at_record a r s LastOnReliable h = absurd (false≢true h)
+at_record a r s LastNotExpected h = absurd (false≢true h)
+at_record a r s LastOff h = absurd (false≢true h)
+at_record a r s BeyondGroup h = refl
+at_record a r s OverLimit h = refl
+at_record a r s ListTooShort h = absurd (false≢true h)
 
 of_calls : CallEffects
 unfolding has all_b
@@ -488,7 +490,7 @@ of_calls =
       forwards_time = λ t a r s x h m. call_effect (calls.accept_out t a r) s x h ∙ at-time (4 ∷ 11 ∷ []) refl (out_stages t a r s) x m;
       sends_time = λ t k reliable hs s x h m. call_effect (calls.prepare t k reliable hs) s x h ∙ at-time (13 ∷ 11 ∷ []) refl (timed t s) x m;
       resends_time = λ t timeout give_up l s x h m. call_effect (calls.take_resends t timeout give_up l) s x h ∙ at-time (12 ∷ []) refl (timed t s) x m;
-      forwards_6 = λ t a r s h. call_effect (calls.accept_out t a r) s cumulative_off h;
+      forwards_6 = λ t a r s h. call_effect (calls.accept_out t a r) s CumulativeOff h;
     }
 
 of_records : RecordEffects
@@ -501,8 +503,8 @@ of_records =
       last_records = λ t a qs r s x n e h. own_record_lem t a qs r s x n (delivery_made (qs ++ (r ∷ []))) (on_time t s) e h;
       delivery_numbers = λ t a rs s x n e. numbers t a rs s x n (delivery_made rs) (on_time t s) refl e;
       record_nothing = λ t a r s x h m. record_effect t a r s x h ∙ at_record a r s x m;
-      record_5 = λ t a r s h. record_effect t a r s old_version h;
-      record_6 = λ t a r s h. record_effect t a r s cumulative_off h;
+      record_5 = λ t a r s h. record_effect t a r s OldVersion h;
+      record_6 = λ t a r s h. record_effect t a r s CumulativeOff h;
       record_7_8_9 = λ t a r s x h m. record_effect t a r s x h ∙ left-acks (record_stages a r s) x m;
     }
 

@@ -2,7 +2,7 @@
 use mathlib.Core.Path.{◌≡◌, refl}
 use Prim.Native.Nat.{ℕ, ◌+◌, ◌-◌}
 use native.Mathlib.Omega.{arith}
-use Rattle.lists.specs.Find.{has, find_by, put_by, position, swap_remove}
+use Rattle.list.specs.Find.{has, find_by, put_by, position, swap_remove}
 use Rattle.seq.specs.Num.{cmp}
 use Rattle.seq.specs.Prefix.{mixed}
 use Rattle.model.specs.Acks.{ack_cumulative, ack_in_singles}

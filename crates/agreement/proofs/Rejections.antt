@@ -4,12 +4,13 @@ use mathlib.Core.Bool.{Bool, true, false}
 use mathlib.Core.List.{List, [], ◌∷◌}
 use Prim.Native.Nat.{ℕ}
 use lib.Dec.{ltb, eqb}
-use Rattle.lists.specs.Find.{has}
+use Rattle.list.specs.Find.{has}
 use Rattle.seq.specs.Num.{sub}
 use Rattle.packet.specs.declared.Record.{Record}
 use Rattle.packet.specs.Data.{is_set, packet, index_of, version_of}
 use Rattle.model.specs.State.{OffChannel, OnChannel, Protocol, State, off_with, on_with, with_source, with_prefix, with_time, with_protocol, off_at, on_at}
-use Rattle.model.specs.Refusals.{beyond_group, Stages, left}
+use Rattle.packet.specs.declared.Refusal.TheVariants.{BeyondGroup}
+use Rattle.model.specs.Refusals.{Stages, left}
 use Rattle.model.specs.Group.{Stored, done, beyond, add_in_packet, panics}
 use Rattle.model.specs.Reorder.{reorder, regroup}
 use Rattle.model.specs.Record.{Outcome, granted, rejected, far_fragment, bare_run, acked_on, acked_off, queued, observed_if, reliable_of, with_reliable, run_of, reliable_in, stored_on, stored_off, loose_on, loose_off, last_given, rules_on, rules_off, current, on_record, cumulative_given, off_record}
@@ -45,7 +46,7 @@ out_stages_if on t a r s =
 abbrev pub Leaves : List ℕ → Stages State → Outcome Protocol → Type 0
 Leaves ns w (granted p) = record {}
 Leaves ns w (rejected x p) = ((left x w).protocol ≡ p) × (among ns x ≡ true)
-Leaves ns w far_fragment = among ns beyond_group ≡ true
+Leaves ns w far_fragment = among ns BeyondGroup ≡ true
 Leaves ns w (bare_run p) = record {}
 
 -- the numbers that the Rust's own rules can come to: of a record, and of forwarded out

@@ -3,19 +3,21 @@ use mathlib.Core.Path.{◌≡◌, refl, ap, sym, ◌∙◌}
 use mathlib.Core.Bool.{Bool, true, false, not, cond, ◌&&◌}
 use mathlib.Core.List.{List, [], ◌∷◌}
 use mathlib.Core.Logic.{◌⊎◌, inl, inr}
-use mathlib.Core.Option.{Option, none, some}
+use Rattle.std.specs.declared.option.Option.{Option}
+use Rattle.std.specs.declared.option.Option.TheVariants.{None, Some}
 use Prim.Native.Nat.{ℕ}
 use lib.Dec.{ltb, leb, eqb}
 use lib.ListN.{length}
-use Rattle.lists.specs.Find.{has}
-use Rattle.lists.proofs.Pad.{never, and_right}
+use Rattle.list.specs.Find.{has}
+use Rattle.list.proofs.Pad.{never, and_right}
 use Rattle.seq.specs.Num.{sub, dist}
 use Rattle.packet.specs.declared.Record.{Record}
 use Rattle.packet.specs.declared.Packet.{Packet}
 use Rattle.packet.specs.declared.Key.{Key}
 use Rattle.packet.specs.Data.{Range, no_range, range, range_of, packet, is_set, index_of, version_of, key_index, well_made, key_made}
 use Rattle.model.specs.State.{Group, OffData, OffChannel, OnChannel, Protocol, State, off_with, on_with, with_source, with_prefix, with_time, off_at, on_at}
-use Rattle.model.specs.Refusals.{Refusal, out_of_range, time_below, channel_absent, table_full, old_version, cumulative_off, last_on_reliable, last_not_expected, last_off, beyond_group, over_limit, list_too_short}
+use Rattle.packet.specs.declared.Refusal.TheVariants.{OutOfRange, TimeBelow, ChannelAbsent, TableFull, OldVersion, CumulativeOff, LastOnReliable, LastNotExpected, LastOff, BeyondGroup, OverLimit, ListTooShort}
+use Rattle.model.specs.Refusals.{Refusal}
 use Rattle.model.specs.Acks.{take_written}
 use Rattle.model.specs.Group.{Stored, beyond, span, is_first, stale, is_beyond, group_at, present, create, in_group, placed, add_in_packet, panics}
 use Rattle.model.specs.Group as group
@@ -32,37 +34,37 @@ use Rattle.agreement.specs.When.{Row, row, Decides, Passes, far_in, far_of, far,
 -- ---- the first row whose condition holds
 
 unfoldable first : List Row → Option Refusal
-first [] = none
-first (w ∷ ws) = cond w.holds (some w.refusal) (first ws)
+first [] = None
+first (w ∷ ws) = cond w.holds (Some w.refusal) (first ws)
 
-decides : (x : Refusal) (ws : List Row) → first ws ≡ some x → Decides x ws
+decides : (x : Refusal) (ws : List Row) → first ws ≡ Some x → Decides x ws
 unfolding first Decides
 decides x [] e = never (cc)
 decides x (w ∷ ws) e = at w.holds refl e (λ q. decides x ws q)
   where
-    at : (b : Bool) → w.holds ≡ b → cond b (some w.refusal) (first ws) ≡ some x → (first ws ≡ some x → Decides x ws) → ((w.holds ≡ true) × (w.refusal ≡ x)) ⊎ ((w.holds ≡ false) × Decides x ws)
+    at : (b : Bool) → w.holds ≡ b → cond b (Some w.refusal) (first ws) ≡ Some x → (first ws ≡ Some x → Decides x ws) → ((w.holds ≡ true) × (w.refusal ≡ x)) ⊎ ((w.holds ≡ false) × Decides x ws)
     at true p q ih = inl (p, cc)
     at false p q ih = inr (p, ih q)
 
-decided : (x : Refusal) (ws : List Row) → Decides x ws → first ws ≡ some x
+decided : (x : Refusal) (ws : List Row) → Decides x ws → first ws ≡ Some x
 unfolding first Decides
 decided x [] d = absurd d
-decided x (w ∷ ws) (inl d) = ap (λ (b : Bool). cond b (some w.refusal) (first ws)) d.0 ∙ ap (λ (y : Refusal). some y) d.1
-decided x (w ∷ ws) (inr d) = ap (λ (b : Bool). cond b (some w.refusal) (first ws)) d.0 ∙ decided x ws d.1
+decided x (w ∷ ws) (inl d) = ap (λ (b : Bool). cond b (Some w.refusal) (first ws)) d.0 ∙ ap (λ (y : Refusal). Some y) d.1
+decided x (w ∷ ws) (inr d) = ap (λ (b : Bool). cond b (Some w.refusal) (first ws)) d.0 ∙ decided x ws d.1
 
-passes : (ws : List Row) → first ws ≡ none → Passes ws
+passes : (ws : List Row) → first ws ≡ None → Passes ws
 unfolding first Passes
 passes [] e = record {}
 passes (w ∷ ws) e = at w.holds refl e (λ q. passes ws q)
   where
-    at : (b : Bool) → w.holds ≡ b → cond b (some w.refusal) (first ws) ≡ none → (first ws ≡ none → Passes ws) → (w.holds ≡ false) × Passes ws
+    at : (b : Bool) → w.holds ≡ b → cond b (Some w.refusal) (first ws) ≡ None → (first ws ≡ None → Passes ws) → (w.holds ≡ false) × Passes ws
     at true p q ih = never (cc)
     at false p q ih = (p, ih q)
 
-passed : (ws : List Row) → Passes ws → first ws ≡ none
+passed : (ws : List Row) → Passes ws → first ws ≡ None
 unfolding first Passes
 passed [] d = refl
-passed (w ∷ ws) d = ap (λ (b : Bool). cond b (some w.refusal) (first ws)) d.0 ∙ passed ws d.1
+passed (w ∷ ws) d = ap (λ (b : Bool). cond b (Some w.refusal) (first ws)) d.0 ∙ passed ws d.1
 
 -- ---- 10: a fragment that is stored beyond its group
 
@@ -94,8 +96,8 @@ stored_far t r d = placed-far (range_of (packet r)) t (packet r) d
 -- ---- one record
 
 abbrev refusal_of : Result → Option Refusal
-refusal_of (takes v) = none
-refusal_of (refuses x) = some x
+refusal_of (takes v) = None
+refusal_of (refuses x) = Some x
 
 module _ (t a : ℕ) (r : Record) (s : State) where
   abbrev p : Protocol
@@ -116,12 +118,12 @@ module _ (t a : ℕ) (r : Record) (s : State) where
 
   -- 11 alone, and 10 before it
   abbrev limit : Outcome Protocol → List Row
-  limit o = row over_limit (too_much o p) ∷ []
+  limit o = row OverLimit (too_much o p) ∷ []
 
   abbrev limits : Bool → Outcome Protocol → List Row
-  limits out o = row beyond_group out ∷ limit o
+  limits out o = row BeyondGroup out ∷ limit o
 
-  room : (b : Bool) (q : Protocol) → refusal_of (port.room_record b a r q s).result ≡ first (row over_limit (not b) ∷ [])
+  room : (b : Bool) (q : Protocol) → refusal_of (port.room_record b a r q s).result ≡ first (row OverLimit (not b) ∷ [])
   unfolding first
   room true q = refl
   room false q = refl
@@ -174,12 +176,12 @@ module _ (t a : ℕ) (r : Record) (s : State) where
   -- 7, 8, 10, 11 by the flags: reliable, last reliable number given, and that it is the expected one
   abbrev on_after : Bool → Bool → Bool → Outcome Protocol → List Row
   on_after reliable last same o =
-      row last_on_reliable (reliable && last)
-      ∷ row last_not_expected (not reliable && last && not same)
+      row LastOnReliable (reliable && last)
+      ∷ row LastNotExpected (not reliable && last && not same)
       ∷ limits (not reliable && far t r on_for.off.groups) o
 
   abbrev off_after : Bool → Bool → Outcome Protocol → List Row
-  off_after reliable last o = row last_on_reliable (reliable && last) ∷ row last_off (not reliable && last) ∷ limits (far t r off_for.off.groups) o
+  off_after reliable last o = row LastOnReliable (reliable && last) ∷ row LastOff (not reliable && last) ∷ limits (far t r off_for.off.groups) o
 
   abbrev expects : Bool
   expects = eqb r.lastreliable (sub on_for.expected 1)
@@ -196,7 +198,7 @@ module _ (t a : ℕ) (r : Record) (s : State) where
   on_rules false true f = on_last expects
   on_rules false false f = on_loose on_acked
 
-  on-current : (old f : Bool) → judged (kept_on (current old f t r on_for)) ≡ first (row old_version old ∷ on_after (is_set r.reliable) (is_set r.haslast) expects (kept_on (current old f t r on_for)))
+  on-current : (old f : Bool) → judged (kept_on (current old f t r on_for)) ≡ first (row OldVersion old ∷ on_after (is_set r.reliable) (is_set r.haslast) expects (kept_on (current old f t r on_for)))
   unfolding first
   on-current true f = refl
   on-current false f = on_rules (is_set r.reliable) (is_set r.haslast) f
@@ -208,7 +210,7 @@ module _ (t a : ℕ) (r : Record) (s : State) where
   off_rules false true = refl
   off_rules false false = off_loose off_acked
 
-  off-cumulative : (given : Bool) → judged (kept_off (cumulative_given given t r off_for)) ≡ first (row cumulative_off given ∷ off_after (is_set r.reliable) (is_set r.haslast) (kept_off (cumulative_given given t r off_for)))
+  off-cumulative : (given : Bool) → judged (kept_off (cumulative_given given t r off_for)) ≡ first (row CumulativeOff given ∷ off_after (is_set r.reliable) (is_set r.haslast) (kept_off (cumulative_given given t r off_for)))
   unfolding first
   off-cumulative true = refl
   off-cumulative false = off_rules (is_set r.reliable) (is_set r.haslast)
@@ -218,12 +220,12 @@ module _ (t a : ℕ) (r : Record) (s : State) where
   own true = on-current (ltb (version_of r) on_for.version) p.forwarding
   own false = off-cumulative (is_set r.hascumulative)
 
-  placed_row : (place : Bool) → refusal_of (port.place_record place t a r s).result ≡ first (row table_full (not place) ∷ own_rows (is_set r.on) t a r p)
+  placed_row : (place : Bool) → refusal_of (port.place_record place t a r s).result ≡ first (row TableFull (not place) ∷ own_rows (is_set r.on) t a r p)
   unfolding first rust.accept_record
   placed_row true = own (is_set r.on)
   placed_row false = refl
 
-  made_row : (b : Bool) → refusal_of (port.made_record b t a r s).result ≡ first (row out_of_range (not b) ∷ row table_full (not (has_place (is_set r.on) a (index_of r) p)) ∷ own_rows (is_set r.on) t a r p)
+  made_row : (b : Bool) → refusal_of (port.made_record b t a r s).result ≡ first (row OutOfRange (not b) ∷ row TableFull (not (has_place (is_set r.on) a (index_of r) p)) ∷ own_rows (is_set r.on) t a r p)
   unfolding first
   made_row true = placed_row (has_place (is_set r.on) a (index_of r) p)
   made_row false = refl
@@ -244,7 +246,7 @@ answered : (x : Result) (n : ℕ) → refusal_in (delivery_answer x n) ≡ refus
 answered (takes v) n = refl
 answered (refuses x) n = refl
 
-delivery-first : (t a : ℕ) (rs : List Record) (s : State) (made in_time : Bool) → delivery_made rs ≡ made → refusal_in (port.deliver made in_time t a rs s).answer ≡ first (row out_of_range (not made) ∷ row time_below (not in_time) ∷ last_rows t a rs (with_time t s))
+delivery-first : (t a : ℕ) (rs : List Record) (s : State) (made in_time : Bool) → delivery_made rs ≡ made → refusal_in (port.deliver made in_time t a rs s).answer ≡ first (row OutOfRange (not made) ∷ row TimeBelow (not in_time) ∷ last_rows t a rs (with_time t s))
 unfolding first
 delivery-first t a rs s true true m =
     let y = play t a rs (with_time t s) in
@@ -256,60 +258,60 @@ delivery-first t a rs s false in_time m = refl
 
 module _ (t a : ℕ) (r : Record) (s : State) where
   abbrev out_limit : Outcome Protocol → List Row
-  out_limit o = row over_limit (too_much o s.protocol) ∷ []
+  out_limit o = row OverLimit (too_much o s.protocol) ∷ []
 
-  out-room : (b : Bool) (q : Protocol) → refusal_in (port.room_out b t a r q s).answer ≡ first (row over_limit (not b) ∷ [])
+  out-room : (b : Bool) (q : Protocol) → refusal_in (port.room_out b t a r q s).answer ≡ first (row OverLimit (not b) ∷ [])
   unfolding first
   out-room true q = refl
   out-room false q = refl
 
-  out-off : (given : Bool) (o : Outcome Protocol) → o ≡ rust.outcome_map (rust.keep_off s.protocol) (rust.forward_off given t r (off_at a s.protocol)) → refusal_in (port.judge_out o t a r s).answer ≡ first (row cumulative_off given ∷ out_limit o)
+  out-off : (given : Bool) (o : Outcome Protocol) → o ≡ rust.outcome_map (rust.keep_off s.protocol) (rust.forward_off given t r (off_at a s.protocol)) → refusal_in (port.judge_out o t a r s).answer ≡ first (row CumulativeOff given ∷ out_limit o)
   unfolding first
   out-off true o e = rw e
   out-off false o e = rw e (out-room (fits _) _)
 
-  out_own : (on : Bool) → refusal_in (port.judge_out (rust.forward_of on t a r s.protocol) t a r s).answer ≡ first (row cumulative_off (not on && is_set r.hascumulative) ∷ out_limit (rust.forward_of on t a r s.protocol))
+  out_own : (on : Bool) → refusal_in (port.judge_out (rust.forward_of on t a r s.protocol) t a r s).answer ≡ first (row CumulativeOff (not on && is_set r.hascumulative) ∷ out_limit (rust.forward_of on t a r s.protocol))
   unfolding first
   out_own true = out-room (fits _) _
   out_own false = out-off (is_set r.hascumulative) _ refl
 
-  out_first : (made in_time place : Bool) → refusal_in (port.forward made in_time place t a r s).answer ≡ first (row out_of_range (not made) ∷ row time_below (not in_time) ∷ row table_full (not place) ∷ row cumulative_off (not (is_set r.on) && is_set r.hascumulative) ∷ out_limit (rust.accept_out t a r s.protocol))
+  out_first : (made in_time place : Bool) → refusal_in (port.forward made in_time place t a r s).answer ≡ first (row OutOfRange (not made) ∷ row TimeBelow (not in_time) ∷ row TableFull (not place) ∷ row CumulativeOff (not (is_set r.on) && is_set r.hascumulative) ∷ out_limit (rust.accept_out t a r s.protocol))
   unfolding first rust.accept_out
   out_first true true true = out_own (is_set r.on)
   out_first true true false = refl
   out_first true false place = refl
   out_first false in_time place = refl
 
-find_first : (k : Key) (s : State) (made place : Bool) → refusal_in (port.find made place k s).answer ≡ first (row out_of_range (not made) ∷ row table_full (not place) ∷ [])
+find_first : (k : Key) (s : State) (made place : Bool) → refusal_in (port.find made place k s).answer ≡ first (row OutOfRange (not made) ∷ row TableFull (not place) ∷ [])
 unfolding first
 find_first k s true true = refl
 find_first k s true false = refl
 find_first k s false place = refl
 
 module _ (k : Key) (places : ℕ) (s : State) where
-  hand_first : (fit : Bool) (b : List ℕ) (bs : List (List ℕ)) → refusal_in (port.hand_out fit k b bs s).answer ≡ first (row list_too_short (not fit) ∷ [])
+  hand_first : (fit : Bool) (b : List ℕ) (bs : List (List ℕ)) → refusal_in (port.hand_out fit k b bs s).answer ≡ first (row ListTooShort (not fit) ∷ [])
   unfolding first
   hand_first true b bs = refl
   hand_first false b bs = refl
 
-  pop_first : (bs : List (List ℕ)) → refusal_in (port.next bs k places s).answer ≡ first (row list_too_short (too_short places bs) ∷ [])
+  pop_first : (bs : List (List ℕ)) → refusal_in (port.next bs k places s).answer ≡ first (row ListTooShort (too_short places bs) ∷ [])
   unfolding first
   pop_first [] = refl
   pop_first (b ∷ bs) = hand_first (leb (length b) places) b bs
 
-  next-first : (made here : Bool) → refusal_in (port.next_of made here k places s).answer ≡ first (row out_of_range (not made) ∷ row channel_absent (not here) ∷ row list_too_short (too_short places (rust.data_of k s.protocol).bundles) ∷ [])
+  next-first : (made here : Bool) → refusal_in (port.next_of made here k places s).answer ≡ first (row OutOfRange (not made) ∷ row ChannelAbsent (not here) ∷ row ListTooShort (too_short places (rust.data_of k s.protocol).bundles) ∷ [])
   unfolding first
   next-first true true = pop_first (rust.data_of k s.protocol).bundles
   next-first true false = refl
   next-first false here = refl
 
 module _ (t : ℕ) (k : Key) (reliable : Bool) (hs : List ℕ) (s : State) where
-  send-room : (fit : Bool) → refusal_in (port.room_send fit t k reliable hs s).answer ≡ first (row over_limit (not fit) ∷ [])
+  send-room : (fit : Bool) → refusal_in (port.room_send fit t k reliable hs s).answer ≡ first (row OverLimit (not fit) ∷ [])
   unfolding first
   send-room true = refl
   send-room false = refl
 
-  send-first : (made in_time here : Bool) → refusal_in (port.send made in_time here t k reliable hs s).answer ≡ first (row out_of_range (not made) ∷ row time_below (not in_time) ∷ row channel_absent (not here) ∷ row over_limit (not (fits (rust.prepared t k reliable hs s.protocol))) ∷ [])
+  send-first : (made in_time here : Bool) → refusal_in (port.send made in_time here t k reliable hs s).answer ≡ first (row OutOfRange (not made) ∷ row TimeBelow (not in_time) ∷ row ChannelAbsent (not here) ∷ row OverLimit (not (fits (rust.prepared t k reliable hs s.protocol))) ∷ [])
   unfolding first
   send-first true true true = send-room (fits (rust.prepared t k reliable hs s.protocol))
   send-first true true false = refl
@@ -317,22 +319,22 @@ module _ (t : ℕ) (k : Key) (reliable : Bool) (hs : List ℕ) (s : State) where
   send-first false in_time here = refl
 
 module _ (k : Key) (s : State) where
-  wrote-here : (here : Bool) (qs : List ℕ) → refusal_in (port.wrote_if here qs k s).answer ≡ first (row channel_absent (not here) ∷ [])
+  wrote-here : (here : Bool) (qs : List ℕ) → refusal_in (port.wrote_if here qs k s).answer ≡ first (row ChannelAbsent (not here) ∷ [])
   unfolding first
   wrote-here true qs = refl
   wrote-here false qs = refl
 
-  wrote-left : (o : Option (List ℕ)) → refusal_in (port.wrote o k s).answer ≡ first (row out_of_range (lacking o) ∷ row channel_absent (not (rust.has_key k s.protocol)) ∷ [])
+  wrote-left : (o : Option (List ℕ)) → refusal_in (port.wrote o k s).answer ≡ first (row OutOfRange (lacking o) ∷ row ChannelAbsent (not (rust.has_key k s.protocol)) ∷ [])
   unfolding first
-  wrote-left none = refl
-  wrote-left (some qs) = wrote-here (rust.has_key k s.protocol) qs
+  wrote-left None = refl
+  wrote-left (Some qs) = wrote-here (rust.has_key k s.protocol) qs
 
-  wrote-first : (ns : List ℕ) (made : Bool) → refusal_in (port.wrote_of made k ns s).answer ≡ first (row out_of_range (not made) ∷ row out_of_range (lacking (take_written ns (queue_if (rust.has_key k s.protocol) k s))) ∷ row channel_absent (not (rust.has_key k s.protocol)) ∷ [])
+  wrote-first : (ns : List ℕ) (made : Bool) → refusal_in (port.wrote_of made k ns s).answer ≡ first (row OutOfRange (not made) ∷ row OutOfRange (lacking (take_written ns (queue_if (rust.has_key k s.protocol) k s))) ∷ row ChannelAbsent (not (rust.has_key k s.protocol)) ∷ [])
   unfolding first
   wrote-first ns true = wrote-left (take_written ns (queue_if (rust.has_key k s.protocol) k s))
   wrote-first ns false = refl
 
-resend-first : (t timeout give_up : ℕ) (s : State) (in_time fit : Bool) → refusal_in (port.resend in_time fit t timeout give_up s).answer ≡ first (row time_below (not in_time) ∷ row list_too_short (not fit) ∷ [])
+resend-first : (t timeout give_up : ℕ) (s : State) (in_time fit : Bool) → refusal_in (port.resend in_time fit t timeout give_up s).answer ≡ first (row TimeBelow (not in_time) ∷ row ListTooShort (not fit) ∷ [])
 unfolding first
 resend-first t timeout give_up s true true = refl
 resend-first t timeout give_up s true false = refl
@@ -354,7 +356,7 @@ call_first calls.transfer_prefix_offset s = refl
 
 -- ---- the whole
 
-some_refuses : (y : Result) (x : Refusal) → refusal_of y ≡ some x → y ≡ refuses x
+some_refuses : (y : Result) (x : Refusal) → refusal_of y ≡ Some x → y ≡ refuses x
 some_refuses (takes v) x e = never (cc)
 some_refuses (refuses z) x e = let same : z ≡ x = cc in ap refuses same
 

@@ -1,7 +1,7 @@
 -- Demand 2, as a statement: the port and the Rust agree on "every sequence of calls from a new table up to the first record or call that
 -- gets an added refusal or would make the Rust panic". The model's History has both runs, and the domain call by call.
 use Rattle.std.specs.Prelude.{◌≡◌, Bool, true, false, cond, not, ◌&&◌, List, [], ◌∷◌, ℕ}
-use Rattle.std.proofs.Math.Option.{some}
+use Rattle.std.specs.declared.option.Option.TheVariants.{Some}
 use Rattle.packet.specs.declared.Record.{Record}
 use Rattle.model.specs.State.{State, new_protocol, new}
 use Rattle.model.specs.Rust as rust
@@ -49,8 +49,8 @@ pub record Demand2 : Type 0 where
   -- and the same contents of a lent list
   pub lent_lists : (e : Call) (s : State) (l : List ℕ) → in_domain e s ≡ true → rust_lent (rust_reply e s.protocol) l ≡ lent (reply e s).answer l
   -- a history from a new table that stays in the domain: the same answers, and the same protocol at its end
-  pub histories : (f : Bool) (es : List Call) → all_in_domain es (new f) ≡ true → rust_run es (new_protocol f) ≡ some (record { answers = (run es (new f)).answers; protocol = (run es (new f)).state.protocol })
+  pub histories : (f : Bool) (es : List Call) → all_in_domain es (new f) ≡ true → rust_run es (new_protocol f) ≡ Some (record { answers = (run es (new f)).answers; protocol = (run es (new f)).state.protocol })
   -- any history from a new table, as far as it stays in the domain
   pub up_to_the_first :
       (f : Bool) (es : List Call) →
-      rust_run (inside es (new f)) (new_protocol f) ≡ some (record { answers = (run (inside es (new f)) (new f)).answers; protocol = (run (inside es (new f)) (new f)).state.protocol })
+      rust_run (inside es (new f)) (new_protocol f) ≡ Some (record { answers = (run (inside es (new f)) (new f)).answers; protocol = (run (inside es (new f)) (new f)).state.protocol })

@@ -1,12 +1,13 @@
 -- 01's refusal table, as a statement about every call: a refusal leaves what its last column says, and nothing else; and which refusals
 -- a call can answer.
 use Rattle.std.specs.Prelude.{◌≡◌, Bool, true, false, List, [], ◌∷◌, ◌++◌, ℕ, eqb, length}
-use Rattle.lists.specs.Find.{has}
+use Rattle.list.specs.Find.{has}
 use Rattle.packet.specs.declared.Record.{Record}
 use Rattle.packet.specs.declared.Key.{Key}
 use Rattle.packet.specs.Data.{is_set, well_made}
 use Rattle.model.specs.State.{State, with_prefix, with_time, with_protocol}
-use Rattle.model.specs.Refusals.{Refusal, number, old_version, cumulative_off, Stages, left}
+use Rattle.packet.specs.declared.Refusal.TheVariants.{OldVersion, CumulativeOff}
+use Rattle.model.specs.Refusals.{Refusal, number, Stages, left}
 use Rattle.model.specs.Calls.{Call, accept, accept_out, channel, next_bundle, prepare, acks_written, take_resends, holds, last_accepted_prefix, reset_prefix_offset, transfer_prefix_offset, refused, undelivered, lent}
 use Rattle.model.specs.Port.{untimed, timed, refuses, record_channel, record_acks, record_stages, out_stages, record_step, play, delivery_made, asked, on_time, reply, reply_if}
 
@@ -73,7 +74,7 @@ pub record CallEffects : Type 0 where
   pub sends_time : (t : ℕ) (k : Key) (reliable : ℕ) (hs : List ℕ) (s : State) (x : Refusal) → Refused (prepare t k reliable hs) s x → among (13 ∷ 11 ∷ []) x ≡ true → (reply (prepare t k reliable hs) s).state ≡ with_time t s
   pub resends_time : (t timeout give_up : ℕ) (l : List ℕ) (s : State) (x : Refusal) → Refused (take_resends t timeout give_up l) s x → among (12 ∷ []) x ≡ true → (reply (take_resends t timeout give_up l) s).state ≡ with_time t s
   -- 6 of forwarded out: the time, and the channel found or made; no prefix
-  pub forwards_6 : (t a : ℕ) (r : Record) (s : State) → Refused (accept_out t a r) s cumulative_off → (reply (accept_out t a r) s).state ≡ with_protocol (record_channel (is_set r.on) a r s.protocol) (with_time t s)
+  pub forwards_6 : (t a : ℕ) (r : Record) (s : State) → Refused (accept_out t a r) s CumulativeOff → (reply (accept_out t a r) s).state ≡ with_protocol (record_channel (is_set r.on) a r s.protocol) (with_time t s)
 
 -- deliveries and their records
 pub record RecordEffects : Type 0 where
@@ -92,9 +93,9 @@ pub record RecordEffects : Type 0 where
   -- a record: 2, 4, 10 and 11 leave what the earlier records left
   pub record_nothing : (t a : ℕ) (r : Record) (s : State) (x : Refusal) → RecordRefused t a r s x → among (2 ∷ 4 ∷ 10 ∷ 11 ∷ []) x ≡ true → (record_step t a r s).state ≡ s
   -- 5: the prefix
-  pub record_5 : (t a : ℕ) (r : Record) (s : State) → RecordRefused t a r s old_version → (record_step t a r s).state ≡ with_protocol (with_prefix r.prefix s.protocol) s
+  pub record_5 : (t a : ℕ) (r : Record) (s : State) → RecordRefused t a r s OldVersion → (record_step t a r s).state ≡ with_protocol (with_prefix r.prefix s.protocol) s
   -- 6: the prefix, and the channel found or made
-  pub record_6 : (t a : ℕ) (r : Record) (s : State) → RecordRefused t a r s cumulative_off → (record_step t a r s).state ≡ with_protocol (record_channel (is_set r.on) a r (with_prefix r.prefix s.protocol)) s
+  pub record_6 : (t a : ℕ) (r : Record) (s : State) → RecordRefused t a r s CumulativeOff → (record_step t a r s).state ≡ with_protocol (record_channel (is_set r.on) a r (with_prefix r.prefix s.protocol)) s
   -- 7, 8, 9: the prefix, and the channel with the acks applied
   pub record_7_8_9 : (t a : ℕ) (r : Record) (s : State) (x : Refusal) → RecordRefused t a r s x → among (7 ∷ 8 ∷ 9 ∷ []) x ≡ true → (record_step t a r s).state ≡ with_protocol (record_acks (is_set r.on) a r (with_prefix r.prefix s.protocol)) s
 

@@ -1,7 +1,7 @@
 -- The scope's "Proved table", as a statement: "One table, one theorem".
 use Rattle.std.specs.Prelude.{◌≡◌, [], ◌∷◌, ℕ, ◌+◌}
-use Rattle.std.proofs.Math.Option.{none, some}
-use Rattle.seq.specs.declared.Order.TheVariants.{Greater}
+use Rattle.std.specs.declared.option.Option.TheVariants.{None, Some}
+use Rattle.std.specs.declared.cmp.Ordering.TheVariants.{Greater}
 use Rattle.seq.specs.Num.{add, sub, cmp, observe_s}
 use Rattle.seq.specs.Prefix.{mixed}
 use Rattle.packet.specs.declared.OutEntry.{OutEntry}
@@ -16,7 +16,7 @@ entry e n = record { time = e.time; sent = e.sent; number = n; held = e.held; ha
 
 -- a group of three places, of which the first is filled, last updated at time u; and what a channel has that holds it alone
 abbrev pub waiting : ℕ → Group
-waiting u = record { first = 0; updated = u; places = some 20 ∷ none ∷ none ∷ [] }
+waiting u = record { first = 0; updated = u; places = Some 20 ∷ None ∷ None ∷ [] }
 
 abbrev pub holding : Group → OffData
 holding g = record { out = []; acks = []; groups = g ∷ []; bundles = [] }
@@ -27,7 +27,7 @@ fragment = record { number = 1; handle = 21; ranged = 1; first = 0; last = 2 }
 
 -- the group with that fragment stored, and its last update set
 abbrev pub grown : ℕ → Group
-grown t = record { first = 0; updated = t; places = some 20 ∷ some 21 ∷ none ∷ [] }
+grown t = record { first = 0; updated = t; places = Some 20 ∷ Some 21 ∷ None ∷ [] }
 
 pub record ProvedTable : Type 0 where
   -- 0 - 1 = 0x0FFFFFFF

@@ -1,14 +1,16 @@
 -- 01's refusal table, "exactly when": the rows of every call and of every record in order of checking, each with its condition. A refusal
 -- is answered exactly when its condition holds and no earlier one does.
 use Rattle.std.specs.Prelude.{◌≡◌, Bool, true, false, not, ◌&&◌, List, [], ◌∷◌, ◌⊎◌, ℕ, ltb, leb, eqb, length}
-use Rattle.std.proofs.Math.Option.{Option, none, some}
-use Rattle.lists.specs.Find.{has, find_by}
+use Rattle.std.specs.declared.option.Option.{Option}
+use Rattle.std.specs.declared.option.Option.TheVariants.{None, Some}
+use Rattle.list.specs.Find.{has, find_by}
 use Rattle.seq.specs.Num.{sub, dist}
 use Rattle.packet.specs.declared.Record.{Record}
 use Rattle.packet.specs.declared.Key.{Key}
 use Rattle.packet.specs.Data.{Range, no_range, range, range_of, packet, is_set, index_of, version_of, key_index, well_made, key_made}
 use Rattle.model.specs.State.{Group, OffChannel, OnChannel, Protocol, State, with_time, off_at, on_at}
-use Rattle.model.specs.Refusals.{Refusal, out_of_range, time_below, channel_absent, table_full, old_version, cumulative_off, last_on_reliable, last_not_expected, last_off, beyond_group, over_limit, list_too_short}
+use Rattle.packet.specs.declared.Refusal.TheVariants.{OutOfRange, TimeBelow, ChannelAbsent, TableFull, OldVersion, CumulativeOff, LastOnReliable, LastNotExpected, LastOff, BeyondGroup, OverLimit, ListTooShort}
+use Rattle.model.specs.Refusals.{Refusal}
 use Rattle.model.specs.Acks.{take_written}
 use Rattle.model.specs.Group.{span, is_first, new_group, stale, is_beyond}
 use Rattle.model.specs.Record.{Outcome, granted, rejected, far_fragment, bare_run}
@@ -63,21 +65,21 @@ too_much o q = not (fits (ended o q))
 -- 5, 7, 8, 10 and 11 of a record for the on-channel c, whose outcome is o
 abbrev pub on_rows : Outcome Protocol → ℕ → Record → OnChannel → Protocol → List Row
 on_rows o t r c p =
-    row old_version (ltb (version_of r) c.version)
-    ∷ row last_on_reliable (is_set r.reliable && is_set r.haslast)
-    ∷ row last_not_expected (not (is_set r.reliable) && is_set r.haslast && not (eqb r.lastreliable (sub c.expected 1)))
-    ∷ row beyond_group (not (is_set r.reliable) && far t r c.off.groups)
-    ∷ row over_limit (too_much o p)
+    row OldVersion (ltb (version_of r) c.version)
+    ∷ row LastOnReliable (is_set r.reliable && is_set r.haslast)
+    ∷ row LastNotExpected (not (is_set r.reliable) && is_set r.haslast && not (eqb r.lastreliable (sub c.expected 1)))
+    ∷ row BeyondGroup (not (is_set r.reliable) && far t r c.off.groups)
+    ∷ row OverLimit (too_much o p)
     ∷ []
 
 -- 6, 7, 9, 10 and 11 of a record for the off-channel c
 abbrev pub off_rows : Outcome Protocol → ℕ → Record → OffChannel → Protocol → List Row
 off_rows o t r c p =
-    row cumulative_off (is_set r.hascumulative)
-    ∷ row last_on_reliable (is_set r.reliable && is_set r.haslast)
-    ∷ row last_off (not (is_set r.reliable) && is_set r.haslast)
-    ∷ row beyond_group (far t r c.off.groups)
-    ∷ row over_limit (too_much o p)
+    row CumulativeOff (is_set r.hascumulative)
+    ∷ row LastOnReliable (is_set r.reliable && is_set r.haslast)
+    ∷ row LastOff (not (is_set r.reliable) && is_set r.haslast)
+    ∷ row BeyondGroup (far t r c.off.groups)
+    ∷ row OverLimit (too_much o p)
     ∷ []
 
 abbrev pub own_rows : Bool → ℕ → ℕ → Record → Protocol → List Row
@@ -86,8 +88,8 @@ own_rows false t a r p = off_rows (rust.record_of false t a r p) t r (off_at a p
 
 unfoldable pub record_rows : ℕ → ℕ → Record → State → List Row
 record_rows t a r s =
-    row out_of_range (not (well_made r))
-    ∷ row table_full (not (has_place (is_set r.on) a (index_of r) s.protocol))
+    row OutOfRange (not (well_made r))
+    ∷ row TableFull (not (has_place (is_set r.on) a (index_of r) s.protocol))
     ∷ own_rows (is_set r.on) t a r s.protocol
 
 -- ---- every call
@@ -99,19 +101,19 @@ last_rows t a (r ∷ []) s = record_rows t a r s
 last_rows t a (r ∷ (q ∷ qs)) s = last_rows t a (q ∷ qs) (record_step t a r s).state
 
 abbrev pub delivery_rows : ℕ → ℕ → List Record → State → List Row
-delivery_rows t a rs s = row out_of_range (not (delivery_made rs)) ∷ row time_below (not (on_time t s)) ∷ last_rows t a rs (with_time t s)
+delivery_rows t a rs s = row OutOfRange (not (delivery_made rs)) ∷ row TimeBelow (not (on_time t s)) ∷ last_rows t a rs (with_time t s)
 
 abbrev pub out_rows : ℕ → ℕ → Record → State → List Row
 out_rows t a r s =
-    row out_of_range (not (well_made r))
-    ∷ row time_below (not (on_time t s))
-    ∷ row table_full (not (has_place (is_set r.on) a (index_of r) s.protocol))
-    ∷ row cumulative_off (not (is_set r.on) && is_set r.hascumulative)
-    ∷ row over_limit (too_much (rust.accept_out t a r s.protocol) s.protocol)
+    row OutOfRange (not (well_made r))
+    ∷ row TimeBelow (not (on_time t s))
+    ∷ row TableFull (not (has_place (is_set r.on) a (index_of r) s.protocol))
+    ∷ row CumulativeOff (not (is_set r.on) && is_set r.hascumulative)
+    ∷ row OverLimit (too_much (rust.accept_out t a r s.protocol) s.protocol)
     ∷ []
 
 abbrev pub find_rows : Key → State → List Row
-find_rows k s = row out_of_range (not (key_made k)) ∷ row table_full (not (has_place (is_set k.on) k.address (key_index k) s.protocol)) ∷ []
+find_rows k s = row OutOfRange (not (key_made k)) ∷ row TableFull (not (has_place (is_set k.on) k.address (key_index k) s.protocol)) ∷ []
 
 -- 12 of the bundles that wait; where none does, none is answered
 abbrev pub too_short : ℕ → List (List ℕ) → Bool
@@ -120,34 +122,34 @@ too_short places (b ∷ bs) = not (leb (length b) places)
 
 abbrev pub next_rows : Key → ℕ → State → List Row
 next_rows k places s =
-    row out_of_range (not (key_made k))
-    ∷ row channel_absent (not (rust.has_key k s.protocol))
-    ∷ row list_too_short (too_short places (rust.data_of k s.protocol).bundles)
+    row OutOfRange (not (key_made k))
+    ∷ row ChannelAbsent (not (rust.has_key k s.protocol))
+    ∷ row ListTooShort (too_short places (rust.data_of k s.protocol).bundles)
     ∷ []
 
 abbrev pub send_rows : ℕ → Key → ℕ → List ℕ → State → List Row
 send_rows t k reliable hs s =
-    row out_of_range (not (asked k reliable (length hs)))
-    ∷ row time_below (not (on_time t s))
-    ∷ row channel_absent (not (rust.has_key k s.protocol))
-    ∷ row over_limit (not (fits (rust.prepared t k (is_set reliable) hs s.protocol)))
+    row OutOfRange (not (asked k reliable (length hs)))
+    ∷ row TimeBelow (not (on_time t s))
+    ∷ row ChannelAbsent (not (rust.has_key k s.protocol))
+    ∷ row OverLimit (not (fits (rust.prepared t k (is_set reliable) hs s.protocol)))
     ∷ []
 
 -- "if one is lacking, refusal 2. An absent channel gives 2 for any name, 13 for an empty list"
 abbrev pub lacking : Option (List ℕ) → Bool
-lacking none = true
-lacking (some qs) = false
+lacking None = true
+lacking (Some qs) = false
 
 abbrev pub written_rows : Key → List ℕ → State → List Row
 written_rows k ns s =
-    row out_of_range (not (key_made k))
-    ∷ row out_of_range (lacking (take_written ns (queue_if (rust.has_key k s.protocol) k s)))
-    ∷ row channel_absent (not (rust.has_key k s.protocol))
+    row OutOfRange (not (key_made k))
+    ∷ row OutOfRange (lacking (take_written ns (queue_if (rust.has_key k s.protocol) k s)))
+    ∷ row ChannelAbsent (not (rust.has_key k s.protocol))
     ∷ []
 
 abbrev pub resend_rows : ℕ → ℕ → ℕ → ℕ → State → List Row
 resend_rows t timeout give_up places s =
-    row time_below (not (on_time t s)) ∷ row list_too_short (not (leb (length (flat (rust.all_rows t timeout give_up s.protocol))) places)) ∷ []
+    row TimeBelow (not (on_time t s)) ∷ row ListTooShort (not (leb (length (flat (rust.all_rows t timeout give_up s.protocol))) places)) ∷ []
 
 unfoldable pub rows_of : Call → State → List Row
 rows_of (accept t a rs) s = delivery_rows t a rs s
@@ -164,17 +166,17 @@ rows_of transfer_prefix_offset s = []
 
 -- the refusal of an answer
 abbrev pub refusal_in : Answer → Option Refusal
-refusal_in (refused x) = some x
-refusal_in (delivered v n) = none
-refusal_in (undelivered x n) = some x
-refusal_in (found v) = none
-refusal_in no_bundle = none
-refusal_in (bundle b) = none
-refusal_in (prepared p) = none
-refusal_in done = none
-refusal_in (resends xs) = none
-refusal_in (held b) = none
-refusal_in (prefix_is p) = none
+refusal_in (refused x) = Some x
+refusal_in (delivered v n) = None
+refusal_in (undelivered x n) = Some x
+refusal_in (found v) = None
+refusal_in no_bundle = None
+refusal_in (bundle b) = None
+refusal_in (prepared p) = None
+refusal_in done = None
+refusal_in (resends xs) = None
+refusal_in (held b) = None
+refusal_in (prefix_is p) = None
 
 -- exactly when
 abbrev pub Iff : Type 0 → Type 0 → Type 0
@@ -182,5 +184,5 @@ Iff p q = (p → q) × (q → p)
 
 pub record ExactlyWhen : Type 0 where
   pub records : (t a : ℕ) (r : Record) (s : State) (x : Refusal) → Iff (RecordRefused t a r s x) (Decides x (record_rows t a r s))
-  pub calls : (e : Call) (s : State) (x : Refusal) → Iff (refusal_in (reply e s).answer ≡ some x) (Decides x (rows_of e s))
-  pub grants : (e : Call) (s : State) → Iff (refusal_in (reply e s).answer ≡ none) (Passes (rows_of e s))
+  pub calls : (e : Call) (s : State) (x : Refusal) → Iff (refusal_in (reply e s).answer ≡ Some x) (Decides x (rows_of e s))
+  pub grants : (e : Call) (s : State) → Iff (refusal_in (reply e s).answer ≡ None) (Passes (rows_of e s))

@@ -1,10 +1,28 @@
-// Theorems over the model alone stand in proofs/; this crate has no code of its own.
+//! Theorems over the model alone, each named by the contract of a function that does nothing: that the calls are the original's, and what
+//! each refusal means and leaves.
 #![tactic(auto)]
 
-ghost use Rattle.std.specs.Prelude.{◌≡◌};
+ghost use Rattle.agreement.specs.Demand2.{Demand2};
+ghost use Rattle.agreement.specs.Effects.{Effects};
+ghost use Rattle.agreement.specs.ProvedTable.{ProvedTable};
+ghost use Rattle.agreement.specs.When.{ExactlyWhen};
 
-pub fn zero() -> u32
-    ensures { result ≡ 0 }
-{
-    0
-}
+/// Up to the first refusal that the port adds, answers and states are the original's.
+pub fn answers_as_the_rust()
+    ensures { Demand2 }
+{}
+
+/// What each refusal leaves of the state and of a lent list.
+pub fn leaves_what_is_stated()
+    ensures { Effects }
+{}
+
+/// Each refusal is answered exactly when its condition holds and no earlier one's does.
+pub fn refuses_exactly_when()
+    ensures { ExactlyWhen }
+{}
+
+/// The table of small cases that the specification asks for.
+pub fn proves_the_table()
+    ensures { ProvedTable }
+{}

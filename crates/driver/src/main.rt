@@ -5,6 +5,7 @@ ghost use Rattle.std.specs.Prelude.{◌≤◌, ◌<◌, length, take, IfOk, IfSo
 ghost use Rattle.std.specs.Io.KnownBytes.{Appends, Consumes, IsAtEnd};
 ghost use Rattle.script.specs.Input.{run_of};
 
+use script::Relay;
 use std::io;
 use std::io::{Read, Write};
 
@@ -31,13 +32,12 @@ fn answer<W: Write>(to: &mut W, input: &[u8]) -> io::Result<()>
     ensures { OnOk result (Appends (W.contents to.old) (W.contents to.new) (run_of input.now)) }
 {
     let mut out = [0u8; 65_536];
-    let mut s = held::start();
+    let mut relay = Relay::new();
     let mut at = 0;
     while at < input.len() {
-        let r = script::run(s, input, at, &mut out);
+        let r = relay.run(input, at, &mut out);
         let n = r.len;
         to.write_all(&out[..n])?;
-        s = r.state;
         at = r.at;
     }
     Ok(())

@@ -1,38 +1,47 @@
--- Any two outcomes that the contract of a public call admits are the same: of its answer, its next table and the list that it was lent.
-use Rattle.std.specs.Prelude.{◌≡◌, Bool, List, ℕ}
+-- Any two outcomes that the contract of a public call admits are the same: its answer, the next table, and the list that it was lent.
+use Rattle.std.specs.Prelude.{◌≡◌, Bool, List, ℕ, Result, ⊤}
+use Rattle.std.specs.declared.option.Option.{Option}
 use Rattle.packet.specs.declared.Record.{Record}
 use Rattle.packet.specs.declared.Key.{Key}
-use Rattle.table.specs.declared.Table.{Table}
-use Rattle.table.specs.Table.{wfb}
-use Rattle.calls.specs.declared.Batch.{Batch}
-use Rattle.calls.specs.declared.Handles.{Handles}
-use Rattle.calls.specs.declared.Names.{Names}
-use Rattle.calls.specs.declared.Delivered.{Delivered}
-use Rattle.calls.specs.declared.Found.{Found}
-use Rattle.calls.specs.declared.Popped.{Popped}
-use Rattle.calls.specs.declared.Sent.{Sent}
-use Rattle.calls.specs.declared.Resent.{Resent}
-use Rattle.calls.specs.declared.Done.{Done}
-use Rattle.calls.specs.declared.Held.{Held}
-use Rattle.calls.specs.declared.Prefix.{Prefix}
-use Rattle.calls.specs.Calls.{accepted, accepted_out, channel_of, next_of, next_lent, prepared_by, wrote_acks, resends_of, resends_lent, holds_of, last_prefix, reset_of, transfer_of}
+use Rattle.packet.specs.declared.View.{View}
+use Rattle.packet.specs.declared.Prepared.{Prepared}
+use Rattle.packet.specs.declared.Refusal.{Refusal}
+use Rattle.model.specs.Calls as call
+use Rattle.model.specs.Calls.{Call, Answer, lent}
+use Rattle.tab.specs.declared.Table.{Table}
+use Rattle.tab.specs.declared.delivery.Delivery.{Delivery}
+use Rattle.tab.specs.Test.{wfb}
+use Rattle.tab.specs.Calls.{called, delivery_of, answer_of, view_in, bundle_in, prepared_in, done_in, rows_in, held_in, prefix_in}
+
+-- what a call gives: its answer, and the table after it
+pub record Given (X : Type 0) : Type 0 where
+  pub answer : X
+  pub table : Table
+
+-- the contract of a call, as its clauses `answer` and `table` say it
+abbrev pub Gives : {X : Type 0} → (Answer → X) → Call → Table → Given X → Type 0
+Gives of e t o = (o.answer ≡ of (called e t).answer) × (o.table ≡ (called e t).table)
+
+-- the clause `lent` of a call that is lent a list
+abbrev pub Lends : Call → Table → List ℕ → List ℕ → Type 0
+Lends e t l m = m ≡ lent (called e t).answer l
 
 -- a contract admits one outcome
 abbrev pub One : {X : Type 0} → (X → Type 0) → Type 0
 One {X} admits = (x y : X) → admits x → admits y → x ≡ y
 
 pub record Same : Type 0 where
-  pub well_formed_lem : (t : Table) → One {X = Bool} (λ b. b ≡ wfb t)
-  pub accept : (t : Table) (time a : ℕ) (b : Batch) → One {X = Delivered} (λ d. d ≡ accepted t time a b)
-  pub accept_out_lem : (t : Table) (time a : ℕ) (r : Record) → One {X = Found} (λ f. f ≡ accepted_out t time a r)
-  pub channel : (t : Table) (k : Key) → One {X = Found} (λ f. f ≡ channel_of t k)
-  pub next_bundle_lem : (t : Table) (k : Key) (l : List ℕ) → One {X = Popped} (λ p. p ≡ next_of t k l)
-  pub next_bundle_lent : (t : Table) (k : Key) (l : List ℕ) → One {X = List ℕ} (λ m. m ≡ next_lent t k l)
-  pub prepare : (t : Table) (time : ℕ) (k : Key) (reliable : ℕ) (h : Handles) → One {X = Sent} (λ s. s ≡ prepared_by t time k reliable h)
-  pub acks_written_lem : (t : Table) (k : Key) (n : Names) → One {X = Done} (λ d. d ≡ wrote_acks t k n)
-  pub take_resends_lem : (t : Table) (time timeout give_up : ℕ) (l : List ℕ) → One {X = Resent} (λ r. r ≡ resends_of t time timeout give_up l)
-  pub take_resends_lent : (t : Table) (time timeout give_up : ℕ) (l : List ℕ) → One {X = List ℕ} (λ m. m ≡ resends_lent t time timeout give_up l)
-  pub holds : (t : Table) (h : ℕ) → One {X = Held} (λ x. x ≡ holds_of t h)
-  pub last_accepted_prefix_lem : (t : Table) → One {X = Prefix} (λ p. p ≡ last_prefix t)
-  pub reset_prefix_offset_lem : (t : Table) → One {X = Done} (λ d. d ≡ reset_of t)
-  pub transfer_prefix_offset_lem : (t : Table) → One {X = Done} (λ d. d ≡ transfer_of t)
+  pub well_formed : (t : Table) → One {X = Bool} (λ b. b ≡ wfb t)
+  pub accept : (t : Table) (time a : ℕ) (rs : List Record) → One {X = Given Delivery} (Gives delivery_of (call.accept time a rs) t)
+  pub accept_out : (t : Table) (time a : ℕ) (r : Record) → One {X = Given (Result View Refusal)} (Gives (answer_of view_in) (call.accept_out time a r) t)
+  pub channel : (t : Table) (k : Key) → One {X = Given (Result View Refusal)} (Gives (answer_of view_in) (call.channel k) t)
+  pub next_bundle : (t : Table) (k : Key) (l : List ℕ) → One {X = Given (Result (Option ℕ) Refusal)} (Gives (answer_of bundle_in) (call.next_bundle k l) t)
+  pub next_bundle_lent : (t : Table) (k : Key) (l : List ℕ) → One (Lends (call.next_bundle k l) t l)
+  pub prepare : (t : Table) (time : ℕ) (k : Key) (reliable : ℕ) (hs : List ℕ) → One {X = Given (Result Prepared Refusal)} (Gives (answer_of prepared_in) (call.prepare time k reliable hs) t)
+  pub acks_written : (t : Table) (k : Key) (ns : List ℕ) → One {X = Given (Result ⊤ Refusal)} (Gives (answer_of done_in) (call.acks_written k ns) t)
+  pub take_resends : (t : Table) (time timeout give_up : ℕ) (l : List ℕ) → One {X = Given (Result ℕ Refusal)} (Gives (answer_of rows_in) (call.take_resends time timeout give_up l) t)
+  pub take_resends_lent : (t : Table) (time timeout give_up : ℕ) (l : List ℕ) → One (Lends (call.take_resends time timeout give_up l) t l)
+  pub holds : (t : Table) (h : ℕ) → One {X = Result Bool Refusal} (λ x. x ≡ answer_of held_in (called (call.holds h) t).answer)
+  pub last_accepted_prefix : (t : Table) → One {X = Result ℕ Refusal} (λ x. x ≡ answer_of prefix_in (called call.last_accepted_prefix t).answer)
+  pub reset_prefix_offset : (t : Table) → One {X = Given (Result ⊤ Refusal)} (Gives (answer_of done_in) call.reset_prefix_offset t)
+  pub transfer_prefix_offset : (t : Table) → One {X = Given (Result ⊤ Refusal)} (Gives (answer_of done_in) call.transfer_prefix_offset t)

@@ -3,9 +3,9 @@ use Rattle.std.specs.Prelude.{List, [], ◌∷◌, ◌++◌, ℕ}
 use Rattle.packet.specs.declared.Record.{Record}
 use Rattle.model.specs.Calls.{Call, Answer}
 use Rattle.order.specs.OnKey.{granted_by, handed_in}
-use Rattle.table.specs.declared.Table.{Table}
-use Rattle.table.specs.Table.{abs}
-use Rattle.calls.specs.Calls.{called}
+use Rattle.tab.specs.declared.Table.{Table}
+use Rattle.tab.specs.Tables.{state_of}
+use Rattle.tab.specs.Calls.{called}
 
 pub record Run : Type 0 where
   pub answers : List Answer
@@ -23,7 +23,7 @@ run_t (e ∷ es) t = answering (called e t).answer (run_t es (called e t).table)
 
 unfoldable pub granted_t : ℕ → ℕ → List Call → Table → List Record
 granted_t a i [] t = []
-granted_t a i (e ∷ es) t = granted_by a i e (abs t) ++ granted_t a i es (called e t).table
+granted_t a i (e ∷ es) t = granted_by a i e (state_of t) ++ granted_t a i es (called e t).table
 
 unfoldable pub handed_t : ℕ → ℕ → List Call → Table → List (List ℕ)
 handed_t a i [] t = []

@@ -5,11 +5,11 @@ use Prim.Native.Nat.{ℕ, ◌≤◌}
 use native.Mathlib.Omega.{arith}
 use lib.Dec.{ltb, eqb}
 use borrow.Author.Tests.{not-true}
-use Rattle.lists.specs.Pad.{all_b}
-use Rattle.lists.proofs.Pad.{never, and_left, and_right}
-use Rattle.lists.proofs.Tests.{and_both, and_7, and_8, all_b-none}
-use Rattle.seq.specs.declared.Order.{Order}
-use Rattle.seq.specs.declared.Order.TheVariants.{Less, Equal, Greater}
+use Rattle.list.specs.Pad.{all_b}
+use Rattle.list.proofs.Pad.{never, and_left, and_right}
+use Rattle.list.proofs.Tests.{and_both, and_7, and_8, all_b-none}
+use Rattle.std.specs.declared.cmp.Ordering.{Ordering}
+use Rattle.std.specs.declared.cmp.Ordering.TheVariants.{Less, Equal, Greater}
 use Rattle.seq.specs.Num.{legal, add, sub, cmp, later}
 use Rattle.packet.specs.declared.Record.{Record}
 use Rattle.packet.specs.declared.Key.{Key}
@@ -129,7 +129,7 @@ Leaves P (bare_run x) = P x
 observed-legal : (b : Bool) (next n : ℕ) → legal next ≡ true → legal (observed_if b next n) ≡ true
 observed-legal true next n h = at (cmp (add n 1) next)
   where
-    at : (o : Order) → legal (later o (add n 1) next) ≡ true
+    at : (o : Ordering) → legal (later o (add n 1) next) ≡ true
     at Less = h
     at Equal = h
     at Greater = add-legal n 1

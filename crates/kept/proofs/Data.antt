@@ -3,18 +3,19 @@
 use mathlib.Core.Path.{◌≡◌, refl, ◌∙◌}
 use mathlib.Core.Bool.{Bool, true, false, cond, ◌||◌}
 use mathlib.Core.List.{List, [], ◌∷◌, ◌++◌, map}
-use mathlib.Core.Option.{Option, none, some}
+use Rattle.std.specs.declared.option.Option.{Option}
+use Rattle.std.specs.declared.option.Option.TheVariants.{None, Some}
 use Prim.Native.Nat.{ℕ, ◌≤◌}
 use native.Mathlib.Omega.{arith}
 use lib.Dec.{leb, eqb}
 use lib.ListN.{length}
 use borrow.Author.Tests.{leb-true, le-leb, eqb-true, eq-eqb}
-use Rattle.lists.specs.Pad.{all_b}
-use Rattle.lists.specs.Find.{has, put_by, remove_first, swap_remove_first}
-use Rattle.lists.proofs.Pad.{and_left, and_right}
-use Rattle.lists.proofs.Find.{all_b_put, put_new, find_key}
-use Rattle.lists.proofs.Tests.{and_both, and_5, eqb_turn, all_b_tail, all_b-none, all_b-cons, all_b_snoc, all_b_weaken, all_b_joins, all_b_remove, all_b-keep, all_b-find, all_b_swap}
-use Rattle.lists.proofs.Maps.{all_b-map_so}
+use Rattle.list.specs.Pad.{all_b}
+use Rattle.list.specs.Find.{has, put_by, remove_first, swap_remove_first}
+use Rattle.list.proofs.Pad.{and_left, and_right}
+use Rattle.list.proofs.Find.{all_b_put, put_new, find_key}
+use Rattle.list.proofs.Tests.{and_both, and_5, eqb_turn, all_b_tail, all_b-none, all_b-cons, all_b_snoc, all_b_weaken, all_b_joins, all_b_remove, all_b-keep, all_b-find, all_b_swap}
+use Rattle.list.proofs.Maps.{all_b-map_so}
 use Rattle.seq.specs.Num.{legal, add, dist, cmp}
 use Rattle.packet.specs.declared.OutEntry.{OutEntry}
 use Rattle.packet.specs.declared.Packet.{Packet}
@@ -131,15 +132,15 @@ singles_in_all (n ∷ ns) qs h = singles_in_all ns (swap_remove_first 0 (is n) q
 
 -- what the names leave, where they are all there
 abbrev pub Taken : (List ℕ → Type 0) → Option (List ℕ) → Type 0
-Taken P none = Unit {0}
-Taken P (some qs) = P qs
+Taken P None = Unit {0}
+Taken P (Some qs) = P qs
 
 pub taken-legal : (ns qs : List ℕ) → all_b legal qs ≡ true → Taken (λ l. all_b legal l ≡ true) (take_written ns qs)
 unfolding take_written
 taken-legal [] qs h = h
 taken-legal (n ∷ ns) qs h = at (has (is n) qs) (taken-legal ns (remove_first (is n) qs) (all_b_remove legal (is n) qs h))
   where
-    at : (b : Bool) → Taken (λ l. all_b legal l ≡ true) (take_written ns (remove_first (is n) qs)) → Taken (λ l. all_b legal l ≡ true) (cond b (take_written ns (remove_first (is n) qs)) none)
+    at : (b : Bool) → Taken (λ l. all_b legal l ≡ true) (take_written ns (remove_first (is n) qs)) → Taken (λ l. all_b legal l ≡ true) (cond b (take_written ns (remove_first (is n) qs)) None)
     at true ih = ih
     at false ih = tt
 

@@ -5,10 +5,10 @@ use mathlib.Core.List.{List, [], ◌∷◌, map}
 use Prim.Native.Nat.{ℕ}
 use lib.Dec.{eqb}
 use borrow.Author.Tests.{not-true, eqb-true}
-use Rattle.lists.specs.Find.{has, put_by, remove_first}
-use Rattle.lists.proofs.Pad.{and_left, and_right}
-use Rattle.lists.proofs.Tests.{and_both, has_remove, has-none_put, has_same}
-use Rattle.lists.proofs.Maps.{has-map}
+use Rattle.list.specs.Find.{has, put_by, remove_first}
+use Rattle.list.proofs.Pad.{and_left, and_right}
+use Rattle.list.proofs.Tests.{and_both, has_remove, has-none_put, has_same}
+use Rattle.list.proofs.Maps.{has-map}
 use Rattle.model.specs.Wellformed.{distinct}
 
 -- equal numbers, beside a third

@@ -3,14 +3,15 @@
 use mathlib.Core.Path.{◌≡◌, refl}
 use mathlib.Core.Bool.{Bool, true, false, ◌&&◌}
 use mathlib.Core.List.{List, [], ◌∷◌}
-use mathlib.Core.Option.{Option, none, some}
+use Rattle.std.specs.declared.option.Option.{Option}
+use Rattle.std.specs.declared.option.Option.TheVariants.{None, Some}
 use Prim.Native.Nat.{ℕ, ◌≤◌}
 use native.Mathlib.Omega.{arith}
 use lib.Dec.{leb}
 use lib.ListN.{length}
 use borrow.Author.Tests.{leb-true}
-use Rattle.lists.specs.Pad.{all_b}
-use Rattle.lists.proofs.Pad.{and_left}
+use Rattle.list.specs.Pad.{all_b}
+use Rattle.list.proofs.Pad.{and_left}
 use Rattle.seq.specs.Num.{legal}
 use Rattle.packet.specs.declared.Record.{Record}
 use Rattle.packet.specs.declared.Key.{Key}
@@ -153,9 +154,9 @@ module _ (s : State) (h : Sound s) where
   -- ---- acks written
 
   wrote_if_lem : (b : Bool) (k : Key) (ns : List ℕ) → key_made k ≡ true → rust.has_key k s.protocol ≡ b → (o : Option (List ℕ)) → take_written ns (queue_if b k s) ≡ o → Sound (wrote o k s).state
-  wrote_if_lem b k ns m q none e = h
-  wrote_if_lem false k ns m q (some qs) e = rw q h
-  wrote_if_lem true k ns m q (some qs) e =
+  wrote_if_lem b k ns m q None e = h
+  wrote_if_lem false k ns m q (Some qs) e = rw q h
+  wrote_if_lem true k ns m q (Some qs) e =
       let p = s.protocol in
       let d = rust.data_of k p in
       let w : Well s.latest p = well_facts s h in

@@ -9,16 +9,16 @@ use native.Mathlib.Decide.{dec_lt}
 use lib.Dec.{ltb, leb, eqb}
 use lib.ListN.{length, length-append}
 use borrow.Author.Tests.{lt-ltb, le-ltb, le-leb, eq-eqb, ne_eqb, eqb-true, eqb-false, ltb-true, ltb-false, leb-true}
-use Rattle.lists.specs.Pad.{all_b}
-use Rattle.lists.proofs.Pad.{never, and_left, and_right}
-use Rattle.lists.proofs.Tests.{and_both, all_b_head, all_b_tail, all_b_snoc, all_b-behind, all_b_parts}
-use Rattle.seq.specs.declared.Order.{Order}
-use Rattle.seq.specs.declared.Order.TheVariants.{Less, Equal, Greater}
+use Rattle.list.specs.Pad.{all_b}
+use Rattle.list.proofs.Pad.{never, and_left, and_right}
+use Rattle.list.proofs.Tests.{and_both, all_b_head, all_b_tail, all_b_snoc, all_b-behind, all_b_parts}
+use Rattle.std.specs.declared.cmp.Ordering.{Ordering}
+use Rattle.std.specs.declared.cmp.Ordering.TheVariants.{Less, Equal, Greater}
 use Rattle.seq.specs.Num.{legal, add, dist, sub, answer, cmp}
 use Rattle.seq.specs.NumLaws.{cmp-same}
 use Rattle.packet.specs.declared.Packet.{Packet}
-use Rattle.packet.specs.declared.Place.{Place}
-use Rattle.packet.specs.declared.Place.TheVariants.{Again, At}
+use Rattle.std.specs.declared.option.Option.{Option}
+use Rattle.std.specs.declared.option.Option.TheVariants.{None, Some}
 use Rattle.packet.specs.Data.{no_packet, is_set, is_flag}
 use Rattle.model.specs.Acks.{search, inserted_at}
 use Rattle.model.specs.Group.{group}
@@ -191,9 +191,9 @@ side_move e (p ∷ b) q bs he l gb gq r h = at (eqb p.number e) refl (λ z. side
         let d : 1 ≤ dist p.number e = omega (arith, r.2) in
         record { legal = he; buffered = gb; waiting = gq; rising = (d, r.1, r.2, r.3); behind = h }
 
-pub all_b-inserted : {A : Type 0} (f : A → Bool) (k : Place) (x : A) (l : List A) → f x ≡ true → all_b f l ≡ true → all_b f (inserted_at k x l) ≡ true
-all_b-inserted f Again x l h g = g
-all_b-inserted f (At k) x l h g = all_b_parts f k x l h g
+pub all_b-inserted : {A : Type 0} (f : A → Bool) (k : Option ℕ) (x : A) (l : List A) → f x ≡ true → all_b f l ≡ true → all_b f (inserted_at k x l) ≡ true
+all_b-inserted f None x l h g = g
+all_b-inserted f (Some k) x l h g = all_b_parts f k x l h g
 
 good_insert : (p : Packet) (b : List Packet) → packet_good p ≡ true → all_b packet_good b ≡ true → all_b packet_good (insert_buffered p b) ≡ true
 unfolding insert_buffered
@@ -207,7 +207,7 @@ side_reorder c p g l w = at (cmp p.number c.expected) refl
     hp : p.number < 0x1000_0000
     hp = packet-below p g
 
-    at : (o : Order) → cmp p.number c.expected ≡ o → Side (place o c p)
+    at : (o : Ordering) → cmp p.number c.expected ≡ o → Side (place o c p)
     at Less z = w
     at Equal z =
         side_move (add c.expected 1) c.buffer (c.queue ++ (p ∷ [])) c.bundles (omega arith) (omega (arith, length-append c.queue (p ∷ []))) w.buffered (all_b_snoc packet_good c.queue p w.waiting g) (shift c.expected 0 c.buffer w.legal w.rising)

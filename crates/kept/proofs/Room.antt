@@ -3,14 +3,14 @@
 use mathlib.Core.Path.{◌≡◌, refl, ap}
 use mathlib.Core.Bool.{Bool, true, false, cond}
 use mathlib.Core.List.{List, [], ◌∷◌, map}
-use mathlib.Core.Option.{none}
+use Rattle.std.specs.declared.option.Option.TheVariants.{None}
 use Prim.Native.Nat.{ℕ, suc, ◌≤◌}
 use native.Mathlib.Omega.{arith}
 use lib.ListN.{length, length-map}
-use Rattle.lists.specs.Pad.{all_b}
-use Rattle.lists.specs.Find.{has, remove_first, joined}
-use Rattle.lists.proofs.Find.{length_remove, length-keep}
-use Rattle.lists.proofs.Joined.{length-joined_tail}
+use Rattle.list.specs.Pad.{all_b}
+use Rattle.list.specs.Find.{has, remove_first, joined}
+use Rattle.list.proofs.Find.{length_remove, length-keep}
+use Rattle.list.proofs.Joined.{length-joined_tail}
 use Rattle.seq.specs.Num.{cmp}
 use Rattle.packet.specs.declared.OutEntry.{OutEntry}
 use Rattle.packet.specs.declared.Record.{Record}
@@ -94,7 +94,7 @@ unfolding take_written
 taken-short n [] qs h = h
 taken-short n (m ∷ ns) qs h = at (has (is m) qs) (taken-short n ns (remove_first (is m) qs) (omega (arith, length_remove (is m) qs)))
   where
-    at : (b : Bool) → Taken (λ l. length l ≤ n) (take_written ns (remove_first (is m) qs)) → Taken (λ l. length l ≤ n) (cond b (take_written ns (remove_first (is m) qs)) none)
+    at : (b : Bool) → Taken (λ l. length l ≤ n) (take_written ns (remove_first (is m) qs)) → Taken (λ l. length l ≤ n) (cond b (take_written ns (remove_first (is m) qs)) None)
     at true ih = ih
     at false ih = tt
 

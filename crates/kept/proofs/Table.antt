@@ -6,10 +6,10 @@ use native.Mathlib.Omega.{arith}
 use lib.Dec.{leb, eqb}
 use lib.ListN.{length, length-map}
 use borrow.Author.Tests.{leb-true, eqb-true, eq-eqb}
-use Rattle.lists.proofs.Pad.{never, and_left, and_right}
-use Rattle.lists.proofs.Find.{all_b_put, length_put_le, find_key}
-use Rattle.lists.proofs.Tests.{and_both, eqb_turn, all_b-none, all_b_weaken, all_b-find}
-use Rattle.lists.proofs.Maps.{all_b-map_so}
+use Rattle.list.proofs.Pad.{never, and_left, and_right}
+use Rattle.list.proofs.Find.{all_b_put, length_put_le, find_key}
+use Rattle.list.proofs.Tests.{and_both, eqb_turn, all_b-none, all_b_weaken, all_b-find}
+use Rattle.list.proofs.Maps.{all_b-map_so}
 use Rattle.seq.specs.Num.{legal}
 use Rattle.model.specs.State.{OffChannel, OnChannel, Protocol, new, new_off, new_on, is_off, is_on, has_off, has_on, off_at, on_at, put_off, put_on}
 use Rattle.model.specs.Room.{fits_off, fits_on, fits}

@@ -1,13 +1,15 @@
 -- The port: each call of 01 as a total function from state and arguments to answer and next state. The tests stand in 01's order,
 -- 1, 2, 3, 13, 4, then the Rust's own 5 to 9, then 10, 11, 12; what a refusal leaves is `left` of its stages.
 use Rattle.std.specs.Prelude.{Bool, true, false, ◌&&◌, ◌||◌, List, [], ◌∷◌, ℕ, suc, leb, length}
-use Rattle.std.proofs.Math.Option.{Option, none, some}
+use Rattle.std.specs.declared.option.Option.{Option}
+use Rattle.std.specs.declared.option.Option.TheVariants.{None, Some}
 use Rattle.packet.specs.declared.Record.{Record}
 use Rattle.packet.specs.declared.Key.{Key}
 use Rattle.packet.specs.declared.View.{View}
 use Rattle.packet.specs.Data.{is_set, is_flag, index_of, version_of, key_index, well_made, key_made}
 use Rattle.model.specs.State.{Protocol, State, off_with, on_with, with_acks, with_prefix, with_time, with_protocol, has_off, has_on, off_at, on_at, put_off, put_on}
-use Rattle.model.specs.Refusals.{Refusal, not_well_formed, out_of_range, time_below, channel_absent, table_full, beyond_group, over_limit, list_too_short, Stages, left}
+use Rattle.packet.specs.declared.Refusal.TheVariants.{NotWellFormed, OutOfRange, TimeBelow, ChannelAbsent, TableFull, BeyondGroup, OverLimit, ListTooShort}
+use Rattle.model.specs.Refusals.{Refusal, Stages, left}
 use Rattle.model.specs.Acks.{take_written}
 use Rattle.model.specs.Record.{Outcome, granted, rejected, far_fragment, bare_run, acked_on, acked_off}
 use Rattle.model.specs.Room.{fits, off_room, on_room}
@@ -68,13 +70,13 @@ refuse_record x a r s = record { result = refuses x; state = left x (record_stag
 -- 11: "Room is judged on the state the rule would end in"
 abbrev pub room_record : Bool → ℕ → Record → Protocol → State → Recorded
 room_record true a r p s = record { result = takes (rust.record_view a r p); state = with_protocol p s }
-room_record false a r p s = refuse_record over_limit a r s
+room_record false a r p s = refuse_record OverLimit a r s
 
 -- the Rust's outcome; 10 where it panics at a fragment beyond its group, and "the port drops them" where it panics at a bare run
 abbrev pub judge_record : Outcome Protocol → ℕ → Record → State → Recorded
 judge_record (granted p) a r s = room_record (fits p) a r p s
 judge_record (rejected x p) a r s = refuse_record x a r s
-judge_record far_fragment a r s = refuse_record beyond_group a r s
+judge_record far_fragment a r s = refuse_record BeyondGroup a r s
 judge_record (bare_run p) a r s = room_record (fits p) a r p s
 
 -- 4: the channel is there, or there is a place for one more
@@ -84,12 +86,12 @@ has_place false a i s = has_off a s || off_room s
 
 abbrev pub place_record : Bool → ℕ → ℕ → Record → State → Recorded
 place_record true t a r s = judge_record (rust.accept_record t a r s.protocol) a r s
-place_record false t a r s = refuse_record table_full a r s
+place_record false t a r s = refuse_record TableFull a r s
 
 -- 2: "a malformed earlier one is itself refused (2) and skipped"
 abbrev pub made_record : Bool → ℕ → ℕ → Record → State → Recorded
 made_record true t a r s = place_record (has_place (is_set r.on) a (index_of r) s.protocol) t a r s
-made_record false t a r s = refuse_record out_of_range a r s
+made_record false t a r s = refuse_record OutOfRange a r s
 
 unfoldable pub record_step : ℕ → ℕ → Record → State → Recorded
 record_step t a r s = made_record (well_made r) t a r s
@@ -119,7 +121,7 @@ count (x ∷ xs) = count_one x (count xs)
 
 -- "Earlier records' refusals are ignored; the answer is the last one's"
 unfoldable pub last_result : List Result → Result
-last_result [] = refuses out_of_range
+last_result [] = refuses OutOfRange
 last_result (x ∷ []) = x
 last_result (x ∷ (y ∷ ys)) = last_result (y ∷ ys)
 
@@ -144,8 +146,8 @@ played_reply p = grant (delivery_answer (last_result p.results) (count p.results
 
 -- the tests are: 2 passed, 3 passed
 abbrev pub deliver : Bool → Bool → ℕ → ℕ → List Record → State → Reply
-deliver false on_time t a rs s = refuse_delivery out_of_range (untimed s)
-deliver true false t a rs s = refuse_delivery time_below (untimed s)
+deliver false on_time t a rs s = refuse_delivery OutOfRange (untimed s)
+deliver true false t a rs s = refuse_delivery TimeBelow (untimed s)
 deliver true true t a rs s = played_reply (play t a rs (with_time t s))
 
 -- 3: time below the latest
@@ -169,19 +171,19 @@ out_stages t a r s =
 
 abbrev pub room_out : Bool → ℕ → ℕ → Record → Protocol → State → Reply
 room_out true t a r p s = grant (found (rust.record_view a r p)) (with_protocol p (with_time t s))
-room_out false t a r p s = refuse over_limit (out_stages t a r s)
+room_out false t a r p s = refuse OverLimit (out_stages t a r s)
 
 abbrev pub judge_out : Outcome Protocol → ℕ → ℕ → Record → State → Reply
 judge_out (granted p) t a r s = room_out (fits p) t a r p s
 judge_out (rejected x p) t a r s = refuse x (out_stages t a r s)
-judge_out far_fragment t a r s = refuse beyond_group (out_stages t a r s)
+judge_out far_fragment t a r s = refuse BeyondGroup (out_stages t a r s)
 judge_out (bare_run p) t a r s = room_out (fits p) t a r p s
 
 -- the tests are: 2, 3, 4 passed
 abbrev pub forward : Bool → Bool → Bool → ℕ → ℕ → Record → State → Reply
-forward false on_time place t a r s = refuse out_of_range (out_stages t a r s)
-forward true false place t a r s = refuse time_below (out_stages t a r s)
-forward true true false t a r s = refuse table_full (out_stages t a r s)
+forward false on_time place t a r s = refuse OutOfRange (out_stages t a r s)
+forward true false place t a r s = refuse TimeBelow (out_stages t a r s)
+forward true true false t a r s = refuse TableFull (out_stages t a r s)
 forward true true true t a r s = judge_out (rust.accept_out t a r s.protocol) t a r s
 
 unfoldable pub accept_out_s : ℕ → ℕ → Record → State → Reply
@@ -190,8 +192,8 @@ accept_out_s t a r s = forward (well_made r) (on_time t s) (has_place (is_set r.
 -- ---- find or create
 
 abbrev pub find : Bool → Bool → Key → State → Reply
-find false place k s = refuse out_of_range (untimed s)
-find true false k s = refuse table_full (untimed s)
+find false place k s = refuse OutOfRange (untimed s)
+find true false k s = refuse TableFull (untimed s)
 find true true k s = grant (found (rust.key_view k (rust.made k s.protocol))) (with_protocol (rust.made k s.protocol) s)
 
 unfoldable pub channel_s : Key → State → Reply
@@ -201,7 +203,7 @@ channel_s k s = find (key_made k) (has_place (is_set k.on) k.address (key_index 
 
 abbrev pub hand_out : Bool → Key → List ℕ → List (List ℕ) → State → Reply
 hand_out true k b bs s = grant (bundle b) (with_protocol (rust.popped k bs s.protocol) s)
-hand_out false k b bs s = refuse list_too_short (untimed s)
+hand_out false k b bs s = refuse ListTooShort (untimed s)
 
 -- next bundle without a bundle answers none, whatever the lent list's length (docs/DECISIONS.md, 12)
 abbrev pub next : List (List ℕ) → Key → ℕ → State → Reply
@@ -209,8 +211,8 @@ next [] k places s = grant no_bundle s
 next (b ∷ bs) k places s = hand_out (leb (length b) places) k b bs s
 
 abbrev pub next_of : Bool → Bool → Key → ℕ → State → Reply
-next_of false here k places s = refuse out_of_range (untimed s)
-next_of true false k places s = refuse channel_absent (untimed s)
+next_of false here k places s = refuse OutOfRange (untimed s)
+next_of true false k places s = refuse ChannelAbsent (untimed s)
 next_of true true k places s = next (rust.data_of k s.protocol).bundles k places s
 
 unfoldable pub next_bundle_s : Key → ℕ → State → Reply
@@ -221,7 +223,7 @@ next_bundle_s k places s = next_of (key_made k) (rust.has_key k s.protocol) k pl
 abbrev pub room_send : Bool → ℕ → Key → Bool → List ℕ → State → Reply
 room_send true t k reliable hs s =
     grant (prepared (rust.prepared_answer k reliable hs s.protocol)) (with_protocol (rust.prepared t k reliable hs s.protocol) (with_time t s))
-room_send false t k reliable hs s = refuse over_limit (timed t s)
+room_send false t k reliable hs s = refuse OverLimit (timed t s)
 
 -- 2 where this is false of the key, the flag and the number of handles: "0 to 16 handles"
 abbrev pub asked : Key → ℕ → ℕ → Bool
@@ -229,9 +231,9 @@ asked k reliable n = key_made k && is_flag reliable && leb n 16
 
 -- the tests are: 2, 3, 13 passed
 abbrev pub send : Bool → Bool → Bool → ℕ → Key → Bool → List ℕ → State → Reply
-send false on_time here t k reliable hs s = refuse out_of_range (timed t s)
-send true false here t k reliable hs s = refuse time_below (timed t s)
-send true true false t k reliable hs s = refuse channel_absent (timed t s)
+send false on_time here t k reliable hs s = refuse OutOfRange (timed t s)
+send true false here t k reliable hs s = refuse TimeBelow (timed t s)
+send true true false t k reliable hs s = refuse ChannelAbsent (timed t s)
 send true true true t k reliable hs s = room_send (fits (rust.prepared t k reliable hs s.protocol)) t k reliable hs s
 
 unfoldable pub prepare_s : ℕ → Key → ℕ → List ℕ → State → Reply
@@ -245,14 +247,14 @@ queue_if false k s = []
 
 abbrev pub wrote_if : Bool → List ℕ → Key → State → Reply
 wrote_if true qs k s = grant done (with_protocol (rust.put_data k (with_acks qs (rust.data_of k s.protocol)) s.protocol) s)
-wrote_if false qs k s = refuse channel_absent (untimed s)
+wrote_if false qs k s = refuse ChannelAbsent (untimed s)
 
 abbrev pub wrote : Option (List ℕ) → Key → State → Reply
-wrote none k s = refuse out_of_range (untimed s)
-wrote (some qs) k s = wrote_if (rust.has_key k s.protocol) qs k s
+wrote None k s = refuse OutOfRange (untimed s)
+wrote (Some qs) k s = wrote_if (rust.has_key k s.protocol) qs k s
 
 abbrev pub wrote_of : Bool → Key → List ℕ → State → Reply
-wrote_of false k ns s = refuse out_of_range (untimed s)
+wrote_of false k ns s = refuse OutOfRange (untimed s)
 wrote_of true k ns s = wrote (take_written ns (queue_if (rust.has_key k s.protocol) k s)) k s
 
 unfoldable pub acks_written_s : Key → List ℕ → State → Reply
@@ -262,8 +264,8 @@ acks_written_s k ns s = wrote_of (key_made k) k ns s
 
 -- the tests are: 3, 12 passed
 abbrev pub resend : Bool → Bool → ℕ → ℕ → ℕ → State → Reply
-resend false room t timeout give_up s = refuse time_below (timed t s)
-resend true false t timeout give_up s = refuse list_too_short (timed t s)
+resend false room t timeout give_up s = refuse TimeBelow (timed t s)
+resend true false t timeout give_up s = refuse ListTooShort (timed t s)
 resend true true t timeout give_up s =
     grant (resends (rust.all_rows t timeout give_up s.protocol)) (with_protocol (rust.resent t timeout give_up s.protocol) (with_time t s))
 
@@ -287,18 +289,18 @@ reply transfer_prefix_offset s = grant done (with_protocol (rust.transferred s.p
 
 -- the answer by refusal 1; a delivery's comes with its count
 abbrev pub answer_one : Call → Answer
-answer_one (accept t a rs) = undelivered not_well_formed 0
-answer_one (accept_out t a r) = refused not_well_formed
-answer_one (channel k) = refused not_well_formed
-answer_one (next_bundle k l) = refused not_well_formed
-answer_one (prepare t k reliable hs) = refused not_well_formed
-answer_one (acks_written k ns) = refused not_well_formed
-answer_one (take_resends t timeout give_up l) = refused not_well_formed
-answer_one (holds h) = refused not_well_formed
-answer_one last_accepted_prefix = refused not_well_formed
-answer_one reset_prefix_offset = refused not_well_formed
-answer_one transfer_prefix_offset = refused not_well_formed
+answer_one (accept t a rs) = undelivered NotWellFormed 0
+answer_one (accept_out t a r) = refused NotWellFormed
+answer_one (channel k) = refused NotWellFormed
+answer_one (next_bundle k l) = refused NotWellFormed
+answer_one (prepare t k reliable hs) = refused NotWellFormed
+answer_one (acks_written k ns) = refused NotWellFormed
+answer_one (take_resends t timeout give_up l) = refused NotWellFormed
+answer_one (holds h) = refused NotWellFormed
+answer_one last_accepted_prefix = refused NotWellFormed
+answer_one reset_prefix_offset = refused NotWellFormed
+answer_one transfer_prefix_offset = refused NotWellFormed
 
 abbrev pub reply_if : Bool → Call → State → Reply
 reply_if true e s = reply e s
-reply_if false e s = record { answer = answer_one e; state = left not_well_formed (untimed s) }
+reply_if false e s = record { answer = answer_one e; state = left NotWellFormed (untimed s) }

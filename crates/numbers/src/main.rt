@@ -2,7 +2,8 @@
 // numbers, computed by the crate `seq` and written one to a line.
 #![tactic(auto)]
 
-use seq::{Order, Seq, SeqAlloc};
+use seq::{Seq, SeqAlloc};
+use std::cmp::Ordering;
 use std::io;
 use std::io::Write;
 
@@ -31,11 +32,11 @@ fn number<W: Write>(out: &mut W, n: u32) -> io::Result<()> {
     out.write_all(b"\n")
 }
 
-fn order<W: Write>(out: &mut W, o: Order) -> io::Result<()> {
+fn order<W: Write>(out: &mut W, o: Ordering) -> io::Result<()> {
     match o {
-        Order::Less => out.write_all(b" = Less\n"),
-        Order::Equal => out.write_all(b" = Equal\n"),
-        Order::Greater => out.write_all(b" = Greater\n"),
+        Ordering::Less => out.write_all(b" = Less\n"),
+        Ordering::Equal => out.write_all(b" = Equal\n"),
+        Ordering::Greater => out.write_all(b" = Greater\n"),
     }
 }
 
@@ -49,15 +50,16 @@ fn numbers<W: Write>(out: &mut W) -> io::Result<()> {
 }
 
 fn source<W: Write>(out: &mut W) -> io::Result<()> {
-    let a = SeqAlloc::new(Seq(0x0FFF_FFFE)).alloc(4);
-    let left = a.source;
+    let mut a = SeqAlloc::new(Seq(0x0FFF_FFFE));
+    let first = a.alloc(4);
     out.write_all(b"alloc 4 at 0x0ffffffe answers")?;
-    number(out, a.first.get())?;
+    number(out, first.get())?;
     out.write_all(b"alloc 4 at 0x0ffffffe leaves")?;
-    number(out, left.next.get())?;
-    let stayed = SeqAlloc::new(Seq(5)).observe(Seq(0x0FFF_FFFF));
+    number(out, a.next)?;
+    let mut stayed = SeqAlloc::new(Seq(5));
+    stayed.observe(Seq(0x0FFF_FFFF));
     out.write_all(b"observe 0x0fffffff at 5 leaves")?;
-    number(out, stayed.next.get())
+    number(out, stayed.next)
 }
 
 fn main(rt: HostRuntime) -> io::Result<()> {

@@ -1,16 +1,18 @@
 -- Arrivals one after the other, oldest first, and bundles already handed out. Assumes nothing.
-use mathlib.Core.Path.{◌≡◌, refl}
+use mathlib.Core.Path.{◌≡◌, refl, ap, ◌∙◌}
 use mathlib.Core.Bool.{Bool, true, false, cond}
 use mathlib.Core.List.{List, [], ◌∷◌, ◌++◌, map, append_assoc, reverse, reverse_aux}
 use Prim.Native.Nat.{ℕ}
 use lib.Dec.{eqb}
-use Rattle.seq.specs.declared.Order.{Order}
-use Rattle.seq.specs.declared.Order.TheVariants.{Less, Equal, Greater}
+use Rattle.std.specs.declared.cmp.Ordering.{Ordering}
+use Rattle.std.specs.declared.cmp.Ordering.TheVariants.{Less, Equal, Greater}
 use Rattle.seq.specs.Num.{add, cmp}
 use Rattle.packet.specs.declared.Packet.{Packet}
 use Rattle.packet.specs.Data.{Range}
 use Rattle.model.specs.Reorder.{Reliable, fresh, move, place, reorder, regroup, arrive}
 use Rattle.order.specs.Sent.{Arrival, sent_as, received, Near}
+use Rattle.order.specs.InOrder.{HasOrdered}
+use Rattle.order.proofs.Order.{ordered}
 
 -- several arrivals, oldest first
 unfoldable pub feed : Reliable → List Packet → Reliable
@@ -52,7 +54,7 @@ handed_move bs e (p ∷ b) q w = at (eqb p.number e) (handed_move bs (add e 1) b
     at true ih = ih
     at false ih = refl
 
-handed_place : (bs : List (List ℕ)) (o : Order) (c : Reliable) (p : Packet) → place o (handed bs c) p ≡ handed bs (place o c p)
+handed_place : (bs : List (List ℕ)) (o : Ordering) (c : Reliable) (p : Packet) → place o (handed bs c) p ≡ handed bs (place o c p)
 handed_place bs Less c p = refl
 handed_place bs Equal c p = handed_move bs (add c.expected 1) c.buffer (c.queue ++ (p ∷ [])) c.bundles
 handed_place bs Greater c p = refl
@@ -68,3 +70,11 @@ handed_feed bs c (p ∷ ps) = rw (handed_arrive bs c p) (handed_feed bs (arrive 
 
 pub handed_append : (bs ds : List (List ℕ)) (c : Reliable) → handed (bs ++ ds) c ≡ handed bs (handed ds c)
 handed_append bs ds c = rw append_assoc
+
+-- ---- a channel that was new
+
+pub has_ordered : (ps : List Packet) (c : Reliable) → c ≡ feed fresh ps → HasOrdered ps c
+has_ordered ps c e s h same near =
+    let whole : c ≡ received s h = e ∙ ap (feed fresh) same ∙ received_feed s h in
+    let o = ordered s h near in
+    record { bundles = ap (λ (r : Reliable). r.bundles) whole ∙ o.0; expected = ap (λ (r : Reliable). r.expected) whole ∙ o.1 }

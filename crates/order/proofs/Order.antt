@@ -1,11 +1,13 @@
 -- Demand 3 for one channel: the main invariant, kept by every arrival, and the ordering theorem. Assumes nothing.
 use mathlib.Core.Path.{◌≡◌, refl, sym, ◌∙◌}
-use mathlib.Core.Option.{Option, none, some, none-ne-some}
+use Rattle.std.proofs.lemmas.Option.{none-some}
+use Rattle.std.specs.declared.option.Option.{Option}
+use Rattle.std.specs.declared.option.Option.TheVariants.{None, Some}
 use mathlib.Core.List.{List, [], ◌∷◌, ◌++◌, map, append-nil, map-append}
 use Prim.Native.Nat.{ℕ, zero, suc, ◌+◌, ◌-◌, ◌≤◌, ◌<◌}
 use native.Mathlib.Omega.{arith}
 use native.Mathlib.Decide.{dec_lt}
-use Rattle.seq.specs.declared.Order.TheVariants.{Less, Equal, Greater}
+use Rattle.std.specs.declared.cmp.Ordering.TheVariants.{Less, Equal, Greater}
 use Rattle.seq.specs.Num.{wrap, cmp}
 use Rattle.seq.specs.NumLaws.{cmp-same, cmp_less, cmp_greater}
 use Rattle.packet.specs.declared.Packet.{Packet}
@@ -37,9 +39,9 @@ reorder_greater c p b e d = rw (e, d)
 pub record Inv (s : ℕ → Range) (top : ℕ) (f : ℕ → Option ℕ) (c : Reliable) (m : ℕ) : Type 0 where
   pub room : ℕ
   pub reach : m + room ≡ top
-  pub end : f top ≡ none
+  pub end : f top ≡ None
   pub gap : Gap f m
-  pub near : (q : ℕ) → (f q ≡ none → ⊥) → q < m + 0x800_0000
+  pub near : (q : ℕ) → (f q ≡ None → ⊥) → q < m + 0x800_0000
   pub is_expected : c.expected ≡ wrap m
   pub is_buffer : c.buffer ≡ map (sent_as s) (firsts f m room)
   pub is_grouped : group (map (sent_as s) (firsts f 0 m)) ≡ record { made = c.bundles; rest = c.queue }
@@ -48,9 +50,9 @@ pub record Inv (s : ℕ → Range) (top : ℕ) (f : ℕ → Option ℕ) (c : Rel
 record Next (s : ℕ → Range) (top : ℕ) (f g : ℕ → Option ℕ) (c c' : Reliable) (m n : ℕ) : Type 0 where
   room : ℕ
   reach : n + room ≡ top
-  end : g top ≡ none
+  end : g top ≡ None
   gap : Gap g n
-  near : (q : ℕ) → (g q ≡ none → ⊥) → q < n + 0x800_0000
+  near : (q : ℕ) → (g q ≡ None → ⊥) → q < n + 0x800_0000
   added : List Packet
   sent : map (sent_as s) (firsts g 0 n) ≡ map (sent_as s) (firsts f 0 m) ++ added
   result : c' ≡ record { expected = wrap n; buffer = map (sent_as s) (firsts g n room); queue = c.queue ++ added; bundles = c.bundles }
@@ -73,7 +75,7 @@ finish s top f g c p m n i x = record {
 
 module _ (s : ℕ → Range) (top : ℕ) (h : List Arrival) (a : Arrival) (c : Reliable) where
   -- a repeat that the reorder rule drops
-  same : (m x : ℕ) → copy h a.place ≡ some x → Inv s top (copy h) c m → reorder c (sent_as s a) ≡ c → Inv s top (copy (a ∷ h)) (arrive c (sent_as s a)) m
+  same : (m x : ℕ) → copy h a.place ≡ Some x → Inv s top (copy h) c m → reorder c (sent_as s a) ≡ c → Inv s top (copy (a ∷ h)) (arrive c (sent_as s a)) m
   same m x o i e = rw (copy_old a h o) (finish s top (copy h) (copy h) c (sent_as s a) m m i (record {
     room = i.room;
     reach = i.reach;
@@ -90,7 +92,7 @@ module _ (s : ℕ → Range) (top : ℕ) (h : List Arrival) (a : Arrival) (c : R
   other q d = copy_other a h q d
 
   -- what arrived stays near
-  near_new : (m : ℕ) → Inv s top (copy h) c m → a.place < m + 0x800_0000 → (q : ℕ) → (copy (a ∷ h) q ≡ none → ⊥) → q < m + 0x800_0000
+  near_new : (m : ℕ) → Inv s top (copy h) c m → a.place < m + 0x800_0000 → (q : ℕ) → (copy (a ∷ h) q ≡ None → ⊥) → q < m + 0x800_0000
   near_new m i u q z = at (dec_lt q a.place) (dec_lt a.place q)
     where
       at : Dec (q < a.place) → Dec (a.place < q) → q < m + 0x800_0000
@@ -103,8 +105,8 @@ module _ (s : ℕ → Range) (top : ℕ) (h : List Arrival) (a : Arrival) (c : R
   late m i l u = at (copy h a.place) refl
     where
       at : (o : Option ℕ) → copy h a.place ≡ o → Inv s top (copy (a ∷ h)) (arrive c (sent_as s a)) m
-      at none e = absurd (i.gap.full a.place l e)
-      at (some x) e = same m x e i (reorder_less c (sent_as s a) (rw (sent_as-number s a, i.is_expected) (cmp_less a.place m l u)))
+      at None e = absurd (i.gap.full a.place l e)
+      at (Some x) e = same m x e i (reorder_less c (sent_as s a) (rw (sent_as-number s a, i.is_expected) (cmp_less a.place m l u)))
 
   -- first copies at places up to this one, and after it, stay
   kept-below : (q n : ℕ) → q + n ≤ a.place → firsts (copy (a ∷ h)) q n ≡ firsts (copy h) q n
@@ -126,7 +128,7 @@ module _ (s : ℕ → Range) (top : ℕ) (h : List Arrival) (a : Arrival) (c : R
     result = reorder_equal c (sent_as s a) (rw (sent_as-number s a, i.is_expected) (cmp-same (wrap a.place))) (sent_as-number s a ∙ sym i.is_expected) ∙ rw (i.is_expected, i.is_buffer) (rw (front i.room (omega arith)) at v.result);
   })
     where
-      full : (q : ℕ) → q < v.next → copy (a ∷ h) q ≡ none → ⊥
+      full : (q : ℕ) → q < v.next → copy (a ∷ h) q ≡ None → ⊥
       full q l z = at (dec_lt q a.place)
         where
           at : Dec (q < a.place) → ⊥
@@ -152,10 +154,10 @@ module _ (s : ℕ → Range) (top : ℕ) (h : List Arrival) (a : Arrival) (c : R
 
     larger : (n : ℕ) → Each (λ b. cmp (sent_as s a).number b.number ≡ Less) (map (sent_as s) (firsts (copy h) (suc a.place) n))
     larger n = firsts-each s (λ b. cmp (sent_as s a).number b.number ≡ Less) (copy h) (suc a.place) n
-        (λ b v w z. let y : b.place < m + 0x800_0000 = i.near b.place (λ o. none-ne-some _ (sym o ∙ z)) in rw (sent_as-number s a, sent_as-number s b) (cmp_less a.place b.place (omega arith) (omega arith)))
+        (λ b v w z. let y : b.place < m + 0x800_0000 = i.near b.place (λ o. none-some _ (sym o ∙ z)) in rw (sent_as-number s a, sent_as-number s b) (cmp_less a.place b.place (omega arith) (omega arith)))
 
     -- a repeat of a buffered packet
-    ahead_again : (x n k : ℕ) → copy h a.place ≡ some x → m + n ≡ a.place → n + suc k ≡ i.room → Inv s top (copy (a ∷ h)) (arrive c (sent_as s a)) m
+    ahead_again : (x n k : ℕ) → copy h a.place ≡ Some x → m + n ≡ a.place → n + suc k ≡ i.room → Inv s top (copy (a ∷ h)) (arrive c (sent_as s a)) m
     ahead_again x n k o e r = same m x o i (reorder_greater c (sent_as s a) c.buffer greater (rw whole (insert_again (sent_as s a) b xs ys same_number (larger k))))
       where
         b : Packet
@@ -174,7 +176,7 @@ module _ (s : ℕ → Range) (top : ℕ) (h : List Arrival) (a : Arrival) (c : R
         whole = rw (i.is_buffer, firsts_split (copy h) m n a.place (suc k) i.room e r, firsts_some (copy h) a.place k o, map-append)
 
     -- the first copy of a packet past the missing one
-    ahead-new : (n k : ℕ) → copy h a.place ≡ none → a.place < top → m + n ≡ a.place → n + suc k ≡ i.room → Inv s top (copy (a ∷ h)) (arrive c (sent_as s a)) m
+    ahead-new : (n k : ℕ) → copy h a.place ≡ None → a.place < top → m + n ≡ a.place → n + suc k ≡ i.room → Inv s top (copy (a ∷ h)) (arrive c (sent_as s a)) m
     ahead-new n k o t e r = finish s top (copy h) (copy (a ∷ h)) c (sent_as s a) m m i (record {
       room = i.room;
       reach = i.reach;
@@ -202,8 +204,8 @@ module _ (s : ℕ → Range) (top : ℕ) (h : List Arrival) (a : Arrival) (c : R
     ahead t = at (copy h a.place) refl
       where
         at : (o : Option ℕ) → copy h a.place ≡ o → Inv s top (copy (a ∷ h)) (arrive c (sent_as s a)) m
-        at none e = ahead-new (a.place - m) (top - suc a.place) e t (omega arith) (omega arith)
-        at (some x) e = ahead_again x (a.place - m) (top - suc a.place) e (omega arith) (omega arith)
+        at None e = ahead-new (a.place - m) (top - suc a.place) e t (omega arith) (omega arith)
+        at (Some x) e = ahead_again x (a.place - m) (top - suc a.place) e (omega arith) (omega arith)
 
   -- every near arrival keeps the invariant
   one : (m : ℕ) → Inv s top (copy h) c m → a.place < top → a.place < m + 0x800_0000 → m < a.place + 0x800_0000 → (n : ℕ) × Inv s top (copy (a ∷ h)) (arrive c (sent_as s a)) n

@@ -6,10 +6,10 @@ use Prim.Native.Nat.{ℕ}
 use lib.Dec.{leb, eqb}
 use lib.ListN.{length, replicate}
 use borrow.Author.Tests.{eqb-true}
-use Rattle.lists.specs.Pad.{all_b}
-use Rattle.lists.specs.Find.{has}
-use Rattle.lists.proofs.Pad.{never, and_left, and_right}
-use Rattle.lists.proofs.Find.{find_absent}
+use Rattle.list.specs.Pad.{all_b}
+use Rattle.list.specs.Find.{has}
+use Rattle.list.proofs.Pad.{never, and_left, and_right}
+use Rattle.list.proofs.Find.{find_absent}
 use Rattle.packet.specs.declared.Key.{Key}
 use Rattle.packet.specs.Data.{is_set, key_index, key_made}
 use Rattle.model.specs.State.{OnChannel, State, new_on, is_on}

@@ -1,7 +1,7 @@
 -- What a history of calls, oldest first, does at one on-channel: the records granted on it, the bundles handed out for it, and what
 -- waits there. The channel is named by its address a and its index i, 0 where it has none.
 use Rattle.std.specs.Prelude.{Bool, cond, ◌&&◌, List, [], ◌∷◌, ◌++◌, ℕ, eqb}
-use Rattle.lists.specs.Find.{keep_by}
+use Rattle.list.specs.Find.{keep_by}
 use Rattle.packet.specs.declared.Record.{Record}
 use Rattle.packet.specs.declared.Key.{Key}
 use Rattle.packet.specs.Data.{is_set, index_of, key_index}

@@ -4,8 +4,8 @@ use mathlib.Core.Bool.{true, ◌&&◌}
 use Prim.Native.Nat.{◌≤◌}
 use borrow.Author.Tests.{leb-true}
 use lib.Dec.{leb}
-use Rattle.lists.specs.Pad.{all_b}
-use Rattle.lists.proofs.Pad.{and_left, and_right}
+use Rattle.list.specs.Pad.{all_b}
+use Rattle.list.proofs.Pad.{and_left, and_right}
 use Rattle.seq.specs.Num.{legal}
 use Rattle.packet.specs.declared.Record.{Record}
 use Rattle.packet.specs.Data.{given, flagged, index_good, single_acks, acks_good, well_made}

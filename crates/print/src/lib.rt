@@ -1,92 +1,67 @@
-// What the scenes write: text, numbers, answers and bundles.
+//! What the programs print, as values to put into a format. Nothing here allocates.
 #![tactic(auto)]
 
-ghost use Rattle.bundles.specs.Bundles as Made;
-
-use bundles::Bundles;
-use std::io;
+use packet::Refusal;
+use queues::Bundles;
 use std::io::Write;
+use std::{fmt, io};
 
-pub fn text<W: Write>(out: &mut W, t: &[u8]) -> io::Result<()> {
-    out.write_all(t)
-}
+/// `yes` or `no`.
+#[derive(Clone, Copy)]
+pub struct YesNo(pub bool);
 
-pub fn digits<W: Write>(out: &mut W, n: u32) -> io::Result<()> {
-    write!(out, "{n}")
-}
+/// `ok`, or `no` and the number of the refusal.
+#[derive(Clone, Copy)]
+pub struct Answer(pub Result<(), Refusal>);
 
-// A blank and a number.
-pub fn number<W: Write>(out: &mut W, n: u32) -> io::Result<()> {
-    write!(out, " {n}")
-}
+/// Each word after a blank.
+#[derive(Clone, Copy)]
+pub struct Words<'a>(pub &'a [u32]);
 
-// A comma and a number.
-pub fn after<W: Write>(out: &mut W, n: u64) -> io::Result<()> {
-    write!(out, ",{n}")
-}
+/// The bundles in the order in which they are handed out: each after a blank, its handles with dots between.
+#[derive(Clone, Copy)]
+pub struct Made<'a>(pub &'a Bundles);
 
-pub fn yes<W: Write>(out: &mut W, b: bool) -> io::Result<()> {
-    if b {
-        out.write_all(b" yes")
-    } else {
-        out.write_all(b" no")
+impl fmt::Display for YesNo {
+    fn fmt<W: fmt::Write>(&self, f: &mut fmt::Formatter<W>) -> fmt::Result {
+        f.write_str(if self.0 { "yes" } else { "no" })
     }
 }
 
-pub fn end<W: Write>(out: &mut W) -> io::Result<()> {
-    out.write_all(b"\n")
-}
-
-// Whether a call was granted, or else the number of its refusal.
-pub fn granted<W: Write>(out: &mut W, code: u32) -> io::Result<()> {
-    if code == 0 {
-        text(out, b" ok")
-    } else {
-        text(out, b" no")?;
-        number(out, code)
-    }
-}
-
-pub fn test<W: Write>(out: &mut W, name: &[u8], good: bool) -> io::Result<()> {
-    text(out, name)?;
-    text(out, b" well formed")?;
-    yes(out, good)?;
-    end(out)
-}
-
-pub fn holds<W: Write>(out: &mut W, handle: u32, held: bool) -> io::Result<()> {
-    number(out, handle)?;
-    yes(out, held)
-}
-
-// The handles of the bundle that is next.
-#[tactic(auto, using(crate::proofs::Fronts::fronts))]
-fn front<W: Write>(out: &mut W, b: Bundles) -> io::Result<()>
-    requires { Made.Wf b }
-{
-    let mut list: [u32; 64] = [0; 64];
-    let n = bundles::front_len(b) as usize;
-    bundles::write_front(b, &mut list);
-    text(out, b" ")?;
-    for i in 0..n {
-        if 0 < i {
-            text(out, b".")?;
+impl fmt::Display for Answer {
+    fn fmt<W: fmt::Write>(&self, f: &mut fmt::Formatter<W>) -> fmt::Result {
+        match self.0 {
+            Ok(()) => f.write_str("ok"),
+            Err(refusal) => write!(f, "no {}", refusal.code()),
         }
-        digits(out, list[i])?;
     }
-    Ok(())
 }
 
-// All bundles, in the order in which they are handed out.
-#[tactic(auto, using(crate::proofs::Fronts::fronts))]
-pub fn all_bundles<W: Write>(out: &mut W, b: Bundles) -> io::Result<()>
-    requires { Made.Wf b }
-{
-    text(out, b" bundles")?;
-    let mut rest = b;
-    while 0 < rest.len {
-        front(out, rest)?;
-        rest = bundles::pop_front(rest);
+impl fmt::Display for Words<'_> {
+    fn fmt<W: fmt::Write>(&self, f: &mut fmt::Formatter<W>) -> fmt::Result {
+        for word in self.0 {
+            write!(f, " {word}")?;
+        }
+        Ok(())
     }
-    Ok(())
+}
+
+impl fmt::Display for Made<'_> {
+    fn fmt<W: fmt::Write>(&self, f: &mut fmt::Formatter<W>) -> fmt::Result {
+        let mut rest: &[u32] = &self.0.handles;
+        for len in self.0.lengths.iter().take(self.0.len as usize) {
+            let Some((bundle, after)) = rest.split_at_checked(*len as usize) else {
+                break;
+            };
+            f.write_str(" ")?;
+            f.write_joined(bundle.iter(), ".")?;
+            rest = after;
+        }
+        Ok(())
+    }
+}
+
+/// Writes the line of a scene that asks whether a list is well formed.
+pub fn test<W: Write>(out: &mut W, name: &str, good: bool) -> io::Result<()> {
+    writeln!(out, "{name}: well formed {}", YesNo(good))
 }

@@ -1,3 +1,4 @@
-pub mod Commands
+pub mod Acks
 pub mod FirstWord
+pub mod Numbers
 pub mod Sample

@@ -1,93 +1,71 @@
--- Which command a line is, without its line feed, or that it is `bad` (01, "The driver"). What is not in use is zero.
-use Rattle.std.specs.Prelude.{cond, List, ℕ, eqb, length, drop}
+-- Which command a line is, without its line feed, or that it is `bad` (01, "The driver").
+use Rattle.std.specs.Prelude.{cond, List, ℕ, eqb, length, drop, Option, Some, None, Result, Ok, Err}
 use Rattle.packet.specs.declared.Key.{Key}
-use Rattle.packet.specs.Data.{no_record}
-use Rattle.words.specs.declared.Number.{Number}
-use Rattle.words.specs.declared.Number.TheVariants.{Value, NoNumber}
-use Rattle.words.specs.declared.Field.{Field}
-use Rattle.words.specs.declared.Field.TheVariants.{Given, Absent, Unreadable}
-use Rattle.words.specs.Text.{bytes}
-use Rattle.words.specs.Words.{begins, most64, number_of, field_of}
-use Rattle.fields.specs.declared.Fields.{Fields}
-use Rattle.fields.specs.Readers.{fields_of}
-use Rattle.reading.specs.declared.Kind.{Kind}
-use Rattle.reading.specs.declared.Kind.TheVariants.{In, Pig, Pop, Bad, BadIn}
-use Rattle.reading.specs.declared.Line.{Line}
+use Rattle.reading.specs.declared.words.Unreadable.{Unreadable}
+use Rattle.reading.specs.declared.Command.{Command}
+use Rattle.reading.specs.declared.Command.TheVariants.{In, Pig, Pop}
+use Rattle.reading.specs.declared.Bad.{Bad}
+use Rattle.reading.specs.declared.Bad.TheVariants.{Line, Arrival}
+use Rattle.reading.specs.Text.{bytes}
+use Rattle.reading.specs.Words.{Read, begins, most64, number_of, field_of, due, due_of, ended}
+use Rattle.reading.specs.Readers.{fields_of}
 
-abbrev pub key_of : ℕ → ℕ → ℕ → ℕ → Key
-key_of a on indexed index = record { address = a; on = on; indexed = indexed; index = index }
+-- a step, and the next one unless the line is unreadable
+infixl 10 ◌>>=◌
+abbrev pub ◌>>=◌ : {A B : Type 0} → Result A Unreadable → (A → Result B Unreadable) → Result B Unreadable
+Ok x >>= f = f x
+Err e >>= f = Err e
 
-unfoldable pub bad_line : Kind → Line
-bad_line k = record { kind = k; time = 0; key = key_of 0 0 0 0; rec = no_record }
+-- `T A P` and the fields, behind `in` and a blank
+unfoldable pub arrival_of : List ℕ → Result Command Unreadable
+arrival_of line = do
+  t ← due (number_of most64 line)
+  a ← due_of (bytes " ") t.rest
+  p ← due_of (bytes " ") a.rest
+  r ← fields_of p.value p.rest
+  Ok (In t.value a.value r)
 
--- `in T A P` and the fields
-unfoldable pub in_line : Fields → ℕ → ℕ → Line
-in_line f t a = cond f.read (record { kind = In; time = t; key = key_of a 0 0 0; rec = f.rec }) (bad_line BadIn)
+abbrev pub key : ℕ → ℕ → ℕ → ℕ → Key
+key a on indexed index = record { address = a; on = on; indexed = indexed; index = index }
 
-abbrev pub in_prefix : Field → List ℕ → ℕ → ℕ → Line
-in_prefix (Given p n) line t a = in_line (fields_of p (drop n line)) t a
-in_prefix Absent line t a = bad_line BadIn
-in_prefix Unreadable line t a = bad_line BadIn
+-- behind `pop A`: `off`, `on` or `idx I`
+abbrev pub indexed_of : ℕ → List ℕ → Result Key Unreadable
+indexed_of a line = do
+  i ← due_of (bytes " idx ") line
+  ended i.rest (key a 1 1 i.value)
 
-unfoldable pub from_prefix : List ℕ → ℕ → ℕ → Line
-from_prefix line t a = in_prefix (field_of (bytes " ") line) line t a
+unfoldable pub key_of : ℕ → List ℕ → Result Key Unreadable
+key_of a line =
+    cond (begins (bytes " off") line) (ended (drop 4 line) (key a 0 0 0))
+    (cond (begins (bytes " on") line) (ended (drop 3 line) (key a 1 0 0)) (indexed_of a line))
 
-abbrev pub in_address : Field → List ℕ → ℕ → Line
-in_address (Given a n) line t = from_prefix (drop n line) t a
-in_address Absent line t = bad_line BadIn
-in_address Unreadable line t = bad_line BadIn
+-- `pig P` and the same fields, or `pop A` and a channel
+abbrev pub pig_of : Read ℕ → Result Command Unreadable
+pig_of p = do
+  r ← fields_of p.value p.rest
+  Ok (Pig r)
 
-unfoldable pub from_address : List ℕ → ℕ → Line
-from_address line t = in_address (field_of (bytes " ") line) line t
+abbrev pub pop_of : List ℕ → Result Command Unreadable
+pop_of line = do
+  a ← due_of (bytes "pop ") line
+  k ← key_of a.value a.rest
+  Ok (Pop k)
 
-abbrev pub in_time : Number → List ℕ → Line
-in_time (Value t n) line = from_address (drop n line) t
-in_time NoNumber line = bad_line BadIn
+abbrev pub pig_or_pop : List ℕ → Option (Read ℕ) → Result Command Unreadable
+pig_or_pop line (Some p) = pig_of p
+pig_or_pop line None = pop_of line
 
-unfoldable pub from_time : List ℕ → Line
-from_time line = in_time (number_of most64 line) line
+unfoldable pub other_of : List ℕ → Result Command Unreadable
+other_of line = field_of (bytes "pig ") line >>= pig_or_pop line
+
+-- a line that cannot be read is `bad`
+abbrev pub or_bad : Bad → Result Command Unreadable → Result Command Bad
+or_bad b (Ok c) = Ok c
+or_bad b (Err e) = Err b
 
 -- after the letters `in`: "A `bad` line uses the held records up where its first word, up to a blank or the end of the line, is exactly `in`"
-unfoldable pub after_in : List ℕ → Line
-after_in line = cond (eqb (length line) 0) (bad_line BadIn) (cond (begins (bytes " ") line) (from_time (drop 1 line)) (bad_line Bad))
+unfoldable pub after_in : List ℕ → Result Command Bad
+after_in line = cond (eqb (length line) 0) (Err Arrival) (cond (begins (bytes " ") line) (or_bad Arrival (arrival_of (drop 1 line))) (Err Line))
 
--- `pop A off`, `pop A on` or `pop A idx I`
-unfoldable pub pop_end : Key → List ℕ → Line
-pop_end k line = cond (eqb (length line) 0) (record { kind = Pop; time = 0; key = k; rec = no_record }) (bad_line Bad)
-
-abbrev pub pop_indexed : Field → List ℕ → ℕ → Line
-pop_indexed (Given i n) line a = pop_end (key_of a 1 1 i) (drop n line)
-pop_indexed Absent line a = bad_line Bad
-pop_indexed Unreadable line a = bad_line Bad
-
-unfoldable pub pop_index : List ℕ → ℕ → Line
-pop_index line a = pop_indexed (field_of (bytes " idx ") line) line a
-
-unfoldable pub pop_on : List ℕ → ℕ → Line
-pop_on line a = cond (begins (bytes " on") line) (pop_end (key_of a 1 0 0) (drop 3 line)) (pop_index line a)
-
-unfoldable pub pop_off : List ℕ → ℕ → Line
-pop_off line a = cond (begins (bytes " off") line) (pop_end (key_of a 0 0 0) (drop 4 line)) (pop_on line a)
-
-abbrev pub pop_address : Field → List ℕ → Line
-pop_address (Given a n) line = pop_off (drop n line) a
-pop_address Absent line = bad_line Bad
-pop_address Unreadable line = bad_line Bad
-
-unfoldable pub read_pop : List ℕ → Line
-read_pop line = pop_address (field_of (bytes "pop ") line) line
-
--- `pig P` and the same fields
-unfoldable pub pig_line : Fields → Line
-pig_line f = cond f.read (record { kind = Pig; time = 0; key = key_of 0 0 0 0; rec = f.rec }) (bad_line Bad)
-
-abbrev pub pig_prefix : Field → List ℕ → Line
-pig_prefix (Given p n) line = pig_line (fields_of p (drop n line))
-pig_prefix Absent line = read_pop line
-pig_prefix Unreadable line = bad_line Bad
-
-unfoldable pub read_pig : List ℕ → Line
-read_pig line = pig_prefix (field_of (bytes "pig ") line) line
-
-unfoldable pub line_of : List ℕ → Line
-line_of line = cond (begins (bytes "in") line) (after_in (drop 2 line)) (read_pig line)
+unfoldable pub line_of : List ℕ → Result Command Bad
+line_of line = cond (begins (bytes "in") line) (after_in (drop 2 line)) (or_bad Line (other_of line))

@@ -1,2 +1,5 @@
+pub mod Text
+pub mod Words
+pub mod Readers
 pub mod Grammar
 pub mod FirstWord

@@ -1,45 +1,198 @@
-// Scenes of the out list: reliable packets sent and not yet acknowledged.
-ghost use Rattle.out_list.specs.Out.{Wf};
+//! Scenes of the out list: reliable packets sent and not yet acknowledged.
 
-use out_list::OutList;
+ghost use Rattle.std.specs.Prelude.{◌≤◌};
+ghost use Rattle.queues.specs.Out.{IsOutList};
+
+use list::Full;
 use packet::OutEntry;
-use std::io;
+use print::YesNo;
+use queues::OutList;
+use queues::out_list::Clock;
 use std::io::Write;
+use std::{fmt, io};
+
+/// What is done to the list.
+#[derive(Clone, Copy)]
+enum Step<'a> {
+    /// Packets 0, 1, .. below the count are sent at time 0, each with its number as handle.
+    SendBelow(u32),
+    /// A packet is sent: number, handle, time.
+    Send(u32, u32, u64),
+    /// Packets of these numbers are forwarded at time 0.
+    Forward(&'a [u32]),
+    /// A packet is forwarded: number, time.
+    ForwardAt(u32, u64),
+    /// Single acks come.
+    Ack(&'a [u32]),
+    /// A cumulative ack comes.
+    AckTo(u32),
+    /// Packets that are due are sent again: time, timeout, age at which they are given up.
+    Resend(u64, u64, u64),
+}
+
+/// What is shown of the list.
+#[derive(Clone, Copy)]
+enum Shown {
+    Numbers,
+    /// The entries whole.
+    Entries,
+    /// Whether there was room at the last step, and the numbers after it.
+    Room,
+    /// How many packets are due, their handles, and the entries that are left: time, timeout, age at which they are given up.
+    Due(u64, u64, u64),
+}
+
+use Shown::{Due, Entries, Numbers, Room};
+use Step::{Ack, AckTo, Forward, ForwardAt, Resend, Send, SendBelow};
+
+const SENT: Step<'static> = Send(0, 20, 10);
+
+const SENT_AGAIN: Step<'static> = Resend(60, 50, 1_000_000);
+
+const SCENES: [(&str, &[Step<'static>], Shown); 31] = [
+    // 32 entries at most. Freed room is used again.
+    ("32 out entries", &[SendBelow(32)], Numbers),
+    ("a 33rd out entry", &[SendBelow(32), Forward(&[32])], Room),
+    (
+        "a repeat at 32 out entries",
+        &[SendBelow(32), Forward(&[31])],
+        Room,
+    ),
+    (
+        "room freed by a single ack",
+        &[SendBelow(32), Ack(&[5]), Forward(&[32])],
+        Room,
+    ),
+    // A cumulative ack removes entries until one that it compares Less or Equal to.
+    (
+        "cumulative 3 on 1 2 3 5",
+        &[Forward(&[1, 2, 3, 5]), AckTo(3)],
+        Numbers,
+    ),
+    (
+        "cumulative 1 on 1 2",
+        &[Forward(&[1, 2]), AckTo(1)],
+        Numbers,
+    ),
+    (
+        "cumulative 9 on 1 2",
+        &[Forward(&[1, 2]), AckTo(9)],
+        Numbers,
+    ),
+    (
+        "cumulative 0 across the wrap",
+        &[Forward(&[268435454, 268435455, 0, 1]), AckTo(0)],
+        Numbers,
+    ),
+    (
+        "cumulative 3 on 5 0 1",
+        &[Forward(&[5]), Send(0, 20, 0), Send(1, 21, 0), AckTo(3)],
+        Numbers,
+    ),
+    // At a distance of 2^27 both directions are Greater.
+    (
+        "cumulative 0 on 134217728",
+        &[Forward(&[134217728]), AckTo(0)],
+        Numbers,
+    ),
+    (
+        "cumulative 0 on 134217727",
+        &[Forward(&[134217727]), AckTo(0)],
+        Numbers,
+    ),
+    (
+        "cumulative 134217728 on 0",
+        &[Forward(&[0]), AckTo(134217728)],
+        Numbers,
+    ),
+    (
+        "cumulative 134217729 on 0",
+        &[Forward(&[0]), AckTo(134217729)],
+        Numbers,
+    ),
+    // Each single ack removes the first entry with that number.
+    (
+        "single acks 2 9 5 on 1 2 3 5",
+        &[Forward(&[1, 2, 3, 5]), Ack(&[2, 9, 5])],
+        Numbers,
+    ),
+    (
+        "the number 0 twice",
+        &[Forward(&[0]), Send(0, 20, 0)],
+        Entries,
+    ),
+    (
+        "single ack 0 of the number 0 twice",
+        &[Forward(&[0]), Send(0, 20, 0), Ack(&[0])],
+        Entries,
+    ),
+    // The search from the end: after the last, in the middle, in front, across the wrap, and at half the numbers.
+    ("forwarded 3 into 1 5", &[Forward(&[1, 5, 3])], Numbers),
+    ("forwarded 1 into 3 5", &[Forward(&[3, 5, 1])], Numbers),
+    ("forwarded 7 into 3 5", &[Forward(&[3, 5, 7])], Numbers),
+    (
+        "forwarded 0 into 268435455 1",
+        &[Forward(&[268435455, 1, 0])],
+        Numbers,
+    ),
+    (
+        "forwarded 0 into 134217728",
+        &[Forward(&[134217728, 0])],
+        Numbers,
+    ),
+    (
+        "forwarded 134217728 into 0",
+        &[Forward(&[0, 134217728])],
+        Numbers,
+    ),
+    // Where the number is there already, its entry stays as it was.
+    (
+        "forwarded 1 again into 1 3",
+        &[Forward(&[1, 3]), ForwardAt(1, 5)],
+        Entries,
+    ),
+    // A packet is due where the time since it was last sent is at least the timeout; it is then last sent now.
+    ("a resend at its timeout", &[SENT], Due(60, 50, 100)),
+    ("a resend one below its timeout", &[SENT], Due(59, 50, 100)),
+    (
+        "a second resend at its timeout",
+        &[SENT, SENT_AGAIN],
+        Due(110, 50, 200),
+    ),
+    (
+        "a second resend one below its timeout",
+        &[SENT, SENT_AGAIN],
+        Due(109, 50, 200),
+    ),
+    // An entry whose age is not below the limit is given up.
+    ("given up at its age", &[SENT], Due(110, 50, 100)),
+    ("one below its age", &[SENT], Due(109, 50, 100)),
+    (
+        "one of two given up",
+        &[SENT, Send(1, 21, 60)],
+        Due(110, 50, 100),
+    ),
+    // A forwarded packet has no handle.
+    (
+        "forwarded packets are not sent again",
+        &[Forward(&[1, 2])],
+        Due(60, 50, 100),
+    ),
+];
 
 // ---- what a scene does
 
-// A packet of ours joins at the end, where there is room.
-#[tactic(auto, using(crate::proofs::OutKept::kept))]
-fn send(o: OutList, number: u32, handle: u32, time: u64) -> OutList
-    requires { Wf o }
-    ensures { Wf result }
-{
-    if 32 <= o.len {
-        return o;
-    }
-    let e = OutEntry {
+fn sent(number: u32, handle: u32, time: u64) -> OutEntry {
+    OutEntry {
         time,
         sent: time,
         number,
         held: 1,
         handle,
-    };
-    out_list::add_out_reliable_packet(o, e)
-}
-
-// Packets 0, 1, .. below count, each with its number as handle, at time 0.
-#[tactic(auto, using(crate::proofs::OutKept::kept))]
-fn sends(count: u32) -> OutList
-    ensures { Wf result }
-{
-    let mut o = OutList::new();
-    for k in 0..count {
-        o = send(o, k, k, 0);
     }
-    o
 }
 
-fn bare(number: u32, time: u64) -> OutEntry {
+fn forwarded(number: u32, time: u64) -> OutEntry {
     OutEntry {
         time,
         sent: time,
@@ -49,350 +202,158 @@ fn bare(number: u32, time: u64) -> OutEntry {
     }
 }
 
-// A packet that was forwarded goes where the search from the end says, where there is room.
-#[tactic(auto, using(crate::proofs::OutKept::kept))]
-fn forward(o: OutList, number: u32, time: u64) -> OutList
-    requires { Wf o }
-    ensures { Wf result }
-{
-    let e = bare(number, time);
-    if out_list::room_for(o, e) {
-        return out_list::add_out_reliable_packet_unordered(o, e);
+fn clock(time: u64, timeout: u64, give_up: u64) -> Clock {
+    Clock {
+        time,
+        timeout,
+        give_up,
     }
-    o
 }
 
-// Packets forwarded one after the other, at time 0.
-#[tactic(auto, using(crate::proofs::OutKept::kept))]
-fn forwards(numbers: &[u32]) -> OutList
-    ensures { Wf result }
+/// Sends again what is due, writes the rows to the front of the lent list, and answers where they end.
+#[tactic(auto, using(crate::proofs::Rows::rows_few))]
+fn resend(o: &mut OutList, clock: Clock, rows: &mut [u32; 64]) -> usize
+    requires { IsOutList o.old }
+    ensures list { IsOutList o.new }
+    ensures end { result ≤ 64 }
 {
-    let mut o = OutList::new();
-    for number in numbers {
-        o = forward(o, *number, 0);
-    }
-    o
+    o.resend(7, clock, rows, 0)
 }
 
-#[tactic(auto, using(crate::proofs::OutKept::kept))]
-fn ack(o: OutList, number: u32) -> OutList
-    requires { Wf o }
-    ensures { Wf result }
+/// Does a step. An `Err` says that there was no room.
+fn act(o: &mut OutList, step: Step) -> Result<(), Full>
+    requires { IsOutList o.old }
+    ensures { IsOutList o.new }
 {
-    out_list::ack_out_reliable_packet(o, number)
-}
-
-#[tactic(auto, using(crate::proofs::OutKept::kept))]
-fn acks(o: OutList, numbers: [u32; 8], count: u32) -> OutList
-    requires { Wf o }
-    ensures { Wf result }
-{
-    if 8 < count {
-        return o;
-    }
-    out_list::ack_singles(o, numbers, count)
-}
-
-#[tactic(auto, using(crate::proofs::OutKept::kept))]
-fn ack_to(o: OutList, number: u32) -> OutList
-    requires { Wf o }
-    ensures { Wf result }
-{
-    out_list::ack_out_reliable_packet_cumulative(o, number)
-}
-
-// What a resend leaves of the list.
-#[tactic(auto, using(crate::proofs::OutKept::kept))]
-fn resent(o: OutList, time: u64, timeout: u64, age: u64) -> OutList
-    requires { Wf o }
-    ensures { Wf result }
-{
-    let mut rows: [u32; 64] = [0; 64];
-    let s = listing::resend_list(o, 7, time, timeout, age, &mut rows, 0);
-    s.out
-}
-
-// ---- what a scene shows
-
-// The numbers of the entries.
-fn show<W: Write>(out: &mut W, name: &[u8], o: OutList) -> io::Result<()> {
-    print::text(out, name)?;
-    print::text(out, b" out")?;
-    let n = o.len as usize;
-    for i in 0..32 {
-        if i < n {
-            let e = o.entries[i];
-            print::number(out, e.number)?;
+    match step {
+        SendBelow(count) => {
+            for k in 0..count {
+                o.push(sent(k, k, 0))?;
+            }
         }
-    }
-    print::end(out)
-}
-
-// An entry: number, handle or -, time, last sent.
-fn show_entry<W: Write>(out: &mut W, e: OutEntry) -> io::Result<()> {
-    print::number(out, e.number)?;
-    if e.held == 1 {
-        print::after(out, e.handle as u64)?;
-    } else {
-        print::text(out, b",-")?;
-    }
-    print::after(out, e.time)?;
-    print::after(out, e.sent)
-}
-
-// The entries whole.
-fn show_whole<W: Write>(out: &mut W, name: &[u8], o: OutList) -> io::Result<()> {
-    print::text(out, name)?;
-    print::text(out, b" out")?;
-    let n = o.len as usize;
-    for i in 0..32 {
-        if i < n {
-            let e = o.entries[i];
-            show_entry(out, e)?;
+        Send(number, handle, time) => o.push(sent(number, handle, time))?,
+        Forward(numbers) => {
+            for number in numbers {
+                o.insert(forwarded(*number, 0))?;
+            }
         }
-    }
-    print::end(out)
-}
-
-// Whether there is room for a packet that is forwarded, and the numbers once it was.
-fn show_room<W: Write>(out: &mut W, name: &[u8], o: OutList, number: u32) -> io::Result<()>
-    requires { Wf o }
-{
-    print::text(out, name)?;
-    print::text(out, b" room")?;
-    let e = bare(number, 0);
-    print::yes(out, out_list::room_for(o, e))?;
-    show(out, b"", forward(o, number, 0))
-}
-
-// The handles of the rows that are due.
-#[tactic(auto, using(crate::proofs::OutKept::kept))]
-fn show_due<W: Write>(out: &mut W, o: OutList, time: u64, timeout: u64, age: u64) -> io::Result<()>
-    requires { Wf o }
-{
-    let mut rows: [u32; 64] = [0; 64];
-    let s = listing::resend_list(o, 7, time, timeout, age, &mut rows, 0);
-    let n = s.next;
-    let mut k: usize = 0;
-    while k + 1 < n {
-        print::number(out, rows[k + 1])?;
-        k += 2;
+        ForwardAt(number, time) => o.insert(forwarded(number, time))?,
+        Ack(numbers) => o.ack_singles(numbers),
+        AckTo(number) => o.ack_cumulative(number),
+        Resend(time, timeout, give_up) => {
+            resend(o, clock(time, timeout, give_up), &mut [0; 64]);
+        }
     }
     Ok(())
 }
 
-// Resends: how many rows the count says, the handles of those written, and the entries that are left.
-#[tactic(auto, using(crate::proofs::OutKept::kept))]
-fn resend<W: Write>(
-    out: &mut W,
-    name: &[u8],
-    o: OutList,
-    time: u64,
-    timeout: u64,
-    age: u64,
-) -> io::Result<()>
-    requires { Wf o }
-{
-    print::text(out, name)?;
-    print::text(out, b" rows")?;
-    print::number(out, out_resends::count_due_young(o, time, timeout, age))?;
-    print::text(out, b" |")?;
-    show_due(out, o, time, timeout, age)?;
-    print::text(out, b" |")?;
-    show_whole(out, b"", resent(o, time, timeout, age))
+// ---- what a scene shows
+
+/// The numbers of the entries.
+#[derive(Clone, Copy)]
+struct NumbersOf<'a>(&'a [OutEntry]);
+
+/// The entries whole: number, handle or -, time, last sent.
+#[derive(Clone, Copy)]
+struct Whole<'a>(&'a [OutEntry]);
+
+/// The handles of rows, each of which is an address and a handle.
+#[derive(Clone, Copy)]
+struct HandlesOf<'a>(&'a [u32]);
+
+impl fmt::Display for NumbersOf<'_> {
+    fn fmt<W: fmt::Write>(&self, f: &mut fmt::Formatter<W>) -> fmt::Result {
+        for e in self.0 {
+            write!(f, " {}", e.number)?;
+        }
+        Ok(())
+    }
 }
 
-fn show_holds<W: Write>(out: &mut W, o: OutList, handle: u32) -> io::Result<()>
-    requires { Wf o }
-{
-    print::holds(out, handle, out_list::holds(o, handle))
+impl fmt::Display for Whole<'_> {
+    fn fmt<W: fmt::Write>(&self, f: &mut fmt::Formatter<W>) -> fmt::Result {
+        for e in self.0 {
+            write!(f, " {},", e.number)?;
+            if e.held == 1 {
+                write!(f, "{}", e.handle)?;
+            } else {
+                f.write_str("-")?;
+            }
+            write!(f, ",{},{}", e.time, e.sent)?;
+        }
+        Ok(())
+    }
 }
 
-// ---- the scenes
-
-// "32 out entries". "Freed room is used again."
-pub fn limit<W: Write>(out: &mut W) -> io::Result<()> {
-    let full = sends(32);
-    show(out, b"32 out entries:", full)?;
-    show_room(out, b"a 33rd out entry:", full, 32)?;
-    show_room(out, b"a repeat at 32 out entries:", full, 31)?;
-    let freed = ack(full, 5);
-    show_room(out, b"room freed by a single ack:", freed, 32)
+impl fmt::Display for HandlesOf<'_> {
+    fn fmt<W: fmt::Write>(&self, f: &mut fmt::Formatter<W>) -> fmt::Result {
+        for handle in self.0.iter().skip(1).step_by(2) {
+            write!(f, " {handle}")?;
+        }
+        Ok(())
+    }
 }
 
-// "remove entries until one where ack compares Less or Equal"
-pub fn cumulative<W: Write>(out: &mut W) -> io::Result<()> {
-    show(
-        out,
-        b"cumulative 3 on 1 2 3 5:",
-        ack_to(forwards(&[1, 2, 3, 5]), 3),
-    )?;
-    show(out, b"cumulative 1 on 1 2:", ack_to(forwards(&[1, 2]), 1))?;
-    show(out, b"cumulative 9 on 1 2:", ack_to(forwards(&[1, 2]), 9))?;
-    let wrap = forwards(&[268435454, 268435455, 0, 1]);
-    show(out, b"cumulative 0 across the wrap:", ack_to(wrap, 0))?;
-    let o = send(send(forwards(&[5]), 0, 20, 0), 1, 21, 0);
-    show(out, b"cumulative 3 on 5 0 1:", ack_to(o, 3))
+fn write_scene<W: Write>(out: &mut W, name: &str, steps: &[Step], shown: Shown) -> io::Result<()> {
+    let mut o = OutList::new();
+    let mut last = Ok(());
+    for step in steps {
+        last = act(&mut o, *step);
+    }
+    write!(out, "{name}:")?;
+    match shown {
+        Numbers => {}
+        Entries => return writeln!(out, " out{}", Whole(o.as_slice())),
+        Room => write!(out, " room {}", YesNo(last.is_ok()))?,
+        Due(time, timeout, give_up) => {
+            let clock = clock(time, timeout, give_up);
+            let mut rows = [0; 64];
+            let count = o.count_due(clock);
+            let end = resend(&mut o, clock, &mut rows);
+            write!(out, " rows {count} |{} |", HandlesOf(&rows[..end]))?;
+            return writeln!(out, " out{}", Whole(o.as_slice()));
+        }
+    }
+    writeln!(out, " out{}", NumbersOf(o.as_slice()))
 }
 
-// "At d = 2^27 both directions are Greater"
-pub fn half<W: Write>(out: &mut W) -> io::Result<()> {
-    show(
-        out,
-        b"cumulative 0 on 134217728:",
-        ack_to(forwards(&[134217728]), 0),
-    )?;
-    show(
-        out,
-        b"cumulative 0 on 134217727:",
-        ack_to(forwards(&[134217727]), 0),
-    )?;
-    show(
-        out,
-        b"cumulative 134217728 on 0:",
-        ack_to(forwards(&[0]), 134217728),
-    )?;
-    show(
-        out,
-        b"cumulative 134217729 on 0:",
-        ack_to(forwards(&[0]), 134217729),
-    )
+// ---- the scenes that ask the list
+
+/// What has no handle holds none, not even the handle 0.
+fn write_held<W: Write>(out: &mut W) -> io::Result<()> {
+    let mut o = OutList::new();
+    let _ = act(&mut o, Forward(&[3]));
+    let _ = act(&mut o, Send(0, 20, 0));
+    write!(out, "handles held by 3 forwarded and 0 sent: holds")?;
+    for handle in [20, 0] {
+        write!(out, " {handle} {}", YesNo(o.holds(handle)))?;
+    }
+    writeln!(out)
 }
 
-// "Each single ack removes the first out entry with that number."
-pub fn singles<W: Write>(out: &mut W) -> io::Result<()> {
-    show(
-        out,
-        b"single acks 2 9 5 on 1 2 3 5:",
-        acks(forwards(&[1, 2, 3, 5]), [2, 9, 5, 0, 0, 0, 0, 0], 3),
-    )?;
-    let twice = send(forwards(&[0]), 0, 20, 0);
-    show_whole(out, b"the number 0 twice:", twice)?;
-    show_whole(out, b"single ack 0 of the number 0 twice:", ack(twice, 0))
-}
-
-// The search from the end: after the last, in the middle, in front, across the wrap, and at half the numbers.
-pub fn inserted<W: Write>(out: &mut W) -> io::Result<()> {
-    show(
-        out,
-        b"forwarded 3 into 1 5:",
-        forward(forwards(&[1, 5]), 3, 0),
-    )?;
-    show(
-        out,
-        b"forwarded 1 into 3 5:",
-        forward(forwards(&[3, 5]), 1, 0),
-    )?;
-    show(
-        out,
-        b"forwarded 7 into 3 5:",
-        forward(forwards(&[3, 5]), 7, 0),
-    )?;
-    show(
-        out,
-        b"forwarded 0 into 268435455 1:",
-        forward(forwards(&[268435455, 1]), 0, 0),
-    )?;
-    show(
-        out,
-        b"forwarded 0 into 134217728:",
-        forward(forwards(&[134217728]), 0, 0),
-    )?;
-    show(
-        out,
-        b"forwarded 134217728 into 0:",
-        forward(forwards(&[0]), 134217728, 0),
-    )
-}
-
-// "Equal drops": the entry that is there stays as it was.
-pub fn repeated<W: Write>(out: &mut W) -> io::Result<()> {
-    show_whole(
-        out,
-        b"forwarded 1 again into 1 3:",
-        forward(forwards(&[1, 3]), 1, 5),
-    )
-}
-
-#[tactic(auto, using(crate::proofs::OutKept::kept))]
-fn sent_at(time: u64) -> OutList
-    ensures { Wf result }
-{
-    send(OutList::new(), 0, 20, time)
-}
-
-// "those with a handle whose time since last sent is at least the timeout, setting last sent"
-pub fn due<W: Write>(out: &mut W) -> io::Result<()> {
-    let o = sent_at(10);
-    resend(out, b"a resend at its timeout:", o, 60, 50, 100)?;
-    resend(out, b"a resend one below its timeout:", o, 59, 50, 100)?;
-    let marked = resent(o, 60, 50, 1_000_000);
-    resend(
-        out,
-        b"a second resend at its timeout:",
-        marked,
-        110,
-        50,
-        200,
-    )?;
-    resend(
-        out,
-        b"a second resend one below its timeout:",
-        marked,
-        109,
-        50,
-        200,
-    )
-}
-
-// "drop entries whose age is not below give-up"
-pub fn given_up<W: Write>(out: &mut W) -> io::Result<()> {
-    let o = sent_at(10);
-    resend(out, b"given up at its age:", o, 110, 50, 100)?;
-    resend(out, b"one below its age:", o, 109, 50, 100)?;
-    let two = send(o, 1, 21, 60);
-    resend(out, b"one of two given up:", two, 110, 50, 100)
-}
-
-// A forwarded packet has no handle.
-pub fn never_due<W: Write>(out: &mut W) -> io::Result<()> {
-    resend(
-        out,
-        b"forwarded packets are not sent again:",
-        forwards(&[1, 2]),
-        60,
-        50,
-        100,
-    )
-}
-
-// What has no handle holds none, not even the handle 0.
-pub fn held<W: Write>(out: &mut W) -> io::Result<()> {
-    let o = send(forwards(&[3]), 0, 20, 0);
-    print::text(out, b"handles held by 3 forwarded and 0 sent: holds")?;
-    show_holds(out, o, 20)?;
-    show_holds(out, o, 0)?;
-    print::end(out)
-}
-
-// "each entry's time <= last sent <= latest time, .. unused places are zero"
-pub fn tested<W: Write>(out: &mut W) -> io::Result<()> {
-    let o = sent_at(10);
+/// Each entry's time is not after the time it was last sent, that not after the latest time, and unused places are zero.
+fn write_tests<W: Write>(out: &mut W) -> io::Result<()> {
+    let mut o = OutList::new();
+    let _ = act(&mut o, SENT);
     print::test(
         out,
-        b"a sent packet at the latest time:",
-        out_test::well_formed(o, 10),
+        "a sent packet at the latest time",
+        o.is_well_formed(10),
     )?;
     print::test(
         out,
-        b"a sent packet after the latest time:",
-        out_test::well_formed(o, 9),
+        "a sent packet after the latest time",
+        o.is_well_formed(9),
     )?;
     let mut stale = OutList::new();
-    stale.entries[0] = bare(1, 0);
-    print::test(
-        out,
-        b"an entry past the count:",
-        out_test::well_formed(stale, 10),
-    )
+    stale.entries[0] = forwarded(1, 0);
+    print::test(out, "an entry past the count", stale.is_well_formed(10))
+}
+
+pub fn write_all<W: Write>(out: &mut W) -> io::Result<()> {
+    for (name, steps, shown) in SCENES {
+        write_scene(out, name, steps, shown)?;
+    }
+    write_held(out)?;
+    write_tests(out)
 }

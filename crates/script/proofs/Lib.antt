@@ -1,2 +1,4 @@
-pub mod Input
 pub mod Plain
+pub mod More
+pub mod Input
+pub mod Says

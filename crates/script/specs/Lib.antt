@@ -1,2 +1,4 @@
-pub mod Input
 pub mod Plain
+pub mod Holding
+pub mod Lines
+pub mod Input

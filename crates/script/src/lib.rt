@@ -1,88 +1,167 @@
-// A whole input of the driver (01, "The driver"), cut into lines, and the answers to them in order.
+//! The driver: a script of lines, each a command or nothing that can be read, and the answers to them in order.
 #![tactic(auto)]
 
-ghost use Rattle.std.specs.Prelude.{◌≡◌, ◌+◌, ◌≤◌, ◌<◌, length, drop};
+ghost use Rattle.std.specs.Prelude.{◌≡◌, ◌+◌, ◌≤◌, ◌<◌, length, drop, Ok};
+ghost use Rattle.reading.specs.declared.Command.TheVariants.{In, Pop};
+ghost use Rattle.script.specs.Plain.{start};
+ghost use Rattle.script.specs.Holding.{IsHeld, plain_of};
+ghost use Rattle.script.specs.Lines.{by_kind, step_of, Says};
 ghost use Rattle.script.specs.Input as Input;
 
-use held::State;
+pub mod held;
 
-// No answer is longer, a bundle of 64 handles of ten digits included.
+use held::Held;
+use packet::{Key, Record};
+use reading::{Bad, Command};
+use tab::Table;
+use writing::Page;
+
+/// What a line finds and leaves: the table, and the records that the next `in` delivers before its own.
+#[derive(Clone, Copy)]
+pub struct Relay {
+    pub table: Table,
+    pub held: Held,
+}
+
+/// No answer is longer, a bundle of 64 handles of ten digits included.
 const ROOM: usize = 800;
 
-// How far an input is answered: the state, the place in the input, and how much of the buffer the answers take.
+/// How far an input is answered: the place in the input, and how much of the buffer the answers take.
 #[derive(Clone, Copy)]
 pub struct Ran {
-    pub state: State,
     pub at: usize,
     pub len: usize,
 }
 
+impl Relay {
+    /// A table that does not forward, and nothing held.
+    pub fn new() -> Relay
+        ensures held { IsHeld result.held }
+        ensures start { plain_of result ≡ start }
+    {
+        Relay {
+            table: Table::new(false),
+            held: Held::new(),
+        }
+    }
+
+    /// `in`: the held records and its own are one delivery, and used up.
+    fn deliver(&mut self, time: u64, address: u32, r: Record, page: &mut Page<'_>)
+        requires held { IsHeld self.old.held }
+        requires room { page.old.len + 800 ≤ length page.old.buf.now }
+        ensures held { IsHeld self.new.held }
+        ensures same { page.new.buf.ghost_name ≡ page.old.buf.ghost_name }
+        ensures says { Says (by_kind (Ok (In time address r)) (plain_of self.old)) page.old.buf.now page.new.buf.now page.old.len page.new.len (plain_of self.new) }
+    {
+        self.held.push(r);
+        let delivery = self.table.accept(time, address, self.held.as_slice());
+        self.held = Held::new();
+        match delivery.last {
+            Ok(view) => page.write_ok(view),
+            Err(refusal) => page.write_no(refusal.code()),
+        }
+    }
+
+    /// `pop`: 64 places always suffice.
+    fn pop(&mut self, key: &Key, page: &mut Page<'_>)
+        requires held { IsHeld self.old.held }
+        requires room { page.old.len + 800 ≤ length page.old.buf.now }
+        ensures held { IsHeld self.new.held }
+        ensures same { page.new.buf.ghost_name ≡ page.old.buf.ghost_name }
+        ensures says { Says (by_kind (Ok (Pop key.now)) (plain_of self.old)) page.old.buf.now page.new.buf.now page.old.len page.new.len (plain_of self.new) }
+    {
+        let mut handles = [0u32; 64];
+        match self.table.next_bundle(key, &mut handles) {
+            Ok(None) => page.write_none(),
+            Ok(Some(n)) => page.write_bundle(&handles[..n]),
+            Err(refusal) => page.write_no(refusal.code()),
+        }
+    }
+
+    /// One line, without its line feed: its answer goes to the page.
+    pub fn step(&mut self, line: &[u8], page: &mut Page<'_>)
+        requires held { IsHeld self.old.held }
+        requires room { page.old.len + 800 ≤ length page.old.buf.now }
+        ensures held { IsHeld self.new.held }
+        ensures same { page.new.buf.ghost_name ≡ page.old.buf.ghost_name }
+        ensures says { Says (step_of (plain_of self.old) line.now) page.old.buf.now page.new.buf.now page.old.len page.new.len (plain_of self.new) }
+    {
+        match reading::read_line(line) {
+            Ok(Command::In(time, address, r)) => self.deliver(time, address, r, page),
+            Ok(Command::Pig(r)) => self.held.push(r),
+            Ok(Command::Pop(key)) => self.pop(&key, page),
+            Err(Bad::Line) => page.write_bad(),
+            Err(Bad::Arrival) => {
+                self.held = Held::new();
+                page.write_bad();
+            }
+        }
+    }
+
+    /// The line that begins where `r` stands. A last line without its line feed is `bad`.
+    fn turn(&mut self, r: Ran, input: &[u8], out: &mut [u8]) -> Ran
+        requires held { IsHeld self.old.held }
+        requires room { (r.at < length input.now) × (r.len + 800 ≤ length out.old) }
+        ensures held { IsHeld self.new.held }
+        ensures turned { Input.Turned (Input.going (plain_of self.old) r) input.now out.old out.new (Input.going (plain_of self.new) result) }
+    {
+        let at = r.at;
+        let end = feed(input, at);
+        let mut page = Page {
+            buf: out,
+            len: r.len,
+        };
+        if end < input.len() {
+            self.step(&input[at..end], &mut page);
+            let len = page.len;
+            return Ran { at: end + 1, len };
+        }
+        page.write_bad();
+        let len = page.len;
+        Ran { at: end, len }
+    }
+
+    /// Answers lines of the input from `from` on, in order, until the end or until another answer might not fit into the buffer. Of an
+    /// input 60,000 bytes are read.
+    pub fn run(&mut self, input: &[u8], from: usize, out: &mut [u8]) -> Ran
+        requires { IsHeld self.old.held }
+        ensures held { IsHeld self.new.held }
+        ensures told { Input.Told (Input.part_from (length out.old) (plain_of self.old) (drop from (Input.read input.now))) from out.old out.new (Input.going (plain_of self.new) result) }
+    {
+        let n = cut(input.len());
+        let read = &input[..n];
+        let mut r = Ran { at: from, len: 0 };
+        while r.at < read.len() {
+            if out.len() - r.len < ROOM {
+                return r;
+            }
+            r = self.turn(r, read, out);
+        }
+        r
+    }
+}
+
 // Where the next line feed stands, from `at` on, or the end.
+#[tactic(auto, using(crate::proofs::Input::feed_within))]
 fn feed(input: &[u8], at: usize) -> usize
     requires { at ≤ length input.now }
     ensures { result ≡ at + Input.feed_at (drop at input.now) }
 {
-    let mut i = at;
-    while i < input.len() {
-        if input[i] == b'\n' {
-            return i;
-        }
-        i += 1;
-    }
-    i
+    let (_, rest) = input.split_at(at);
+    at + before_feed(rest)
 }
 
-// The line that begins where `r` stands. "A last line without its line feed is `bad`."
-fn turn(r: Ran, input: &[u8], out: &mut [u8]) -> Ran
-    requires { (r.at < length input.now) × (r.len + 800 ≤ length out.old) }
-    ensures { Input.Turned r input.now out.old out.new result }
+// How many bytes stand before the first line feed, all of them where there is none.
+fn before_feed(line: &[u8]) -> usize
+    ensures { result ≡ Input.feed_at line.now }
 {
-    let state = r.state;
-    let at = r.at;
-    let end = feed(input, at);
-    if end < input.len() {
-        let x = lines::step(state, &input[at..end], out, r.len);
-        let next = x.state;
-        return Ran {
-            state: next,
-            at: end + 1,
-            len: x.next,
-        };
-    }
-    let len = writing::write_bad(out, r.len);
-    Ran {
-        state,
-        at: end,
-        len,
-    }
+    line.iter().take_while(|b| **b != b'\n').count()
 }
 
-// "read up to 60,000 bytes"
+// How many bytes of an input are read.
+#[tactic(auto, using(crate::proofs::Input::cut_is))]
 fn cut(n: usize) -> usize
     ensures { result ≡ Input.cut n }
 {
-    if n < 60_000 {
-        return n;
-    }
-    60_000
-}
-
-// Answers lines of the input from `from` on, in order, until the end or until another answer might not fit into the buffer.
-pub fn run(s: State, input: &[u8], from: usize, out: &mut [u8]) -> Ran
-    ensures { Input.Told (Input.part_from (length out.old) s (drop from (Input.read input.now))) from out.old out.new result }
-{
-    let n = cut(input.len());
-    let read = &input[..n];
-    let mut r = Ran {
-        state: s,
-        at: from,
-        len: 0,
-    };
-    while r.at < read.len() {
-        if out.len() - r.len < ROOM {
-            return r;
-        }
-        r = turn(r, read, out);
-    }
-    r
+    n.min(60_000)
 }

@@ -2,4 +2,3 @@ pub mod Num
 pub mod NumLaws
 pub mod Prefix
 pub mod Rfc1982
-pub mod Host

@@ -6,7 +6,7 @@ ghost use Rattle.std.specs.Prelude.{◌≡◌};
 ghost use Rattle.seq.specs.Num as Num;
 ghost use Rattle.seq.specs.Prefix.{prefix};
 
-pub mod host;
+use std::cmp::Ordering;
 
 // "A number and a distance between two numbers are kept as separate kinds."
 #[derive(Clone, Copy)]
@@ -14,14 +14,6 @@ pub struct Seq(pub u32);
 
 #[derive(Clone, Copy)]
 pub struct Delta(pub u32);
-
-// The Rust's `Ordering`.
-#[derive(Clone, Copy)]
-pub enum Order {
-    Less,
-    Equal,
-    Greater,
-}
 
 const SIZE: u32 = 0x1000_0000;
 
@@ -46,13 +38,13 @@ fn masked(num: u32) -> u32
 fn wrapped_sum(a: u32, n: u32) -> u32
     ensures { result ≡ Num.add a n }
 {
-    masked(std::num::wrapping_add_u32(a, n))
+    masked(a.wrapping_add(n))
 }
 
 fn wrapped_difference(a: u32, n: u32) -> u32
     ensures { result ≡ Num.dist a n }
 {
-    masked(std::num::wrapping_sub_u32(a, n))
+    masked(a.wrapping_sub(n))
 }
 
 impl Seq {
@@ -63,18 +55,18 @@ impl Seq {
     }
 
     // The Rust's `wrapping_cmp`. At a distance of 2^27 it answers Greater both ways.
-    pub fn compare(self, other: Seq) -> Order
+    pub fn compare(self, other: Seq) -> Ordering
         ensures { result ≡ Num.cmp self.0 other.0 }
     {
         let a = self.0;
         let b = other.0;
         if a == b {
-            return Order::Equal;
+            return Ordering::Equal;
         }
         if wrapped_difference(a, b) > SIZE / 2 {
-            return Order::Less;
+            return Ordering::Less;
         }
-        Order::Greater
+        Ordering::Greater
     }
 
     pub fn add(self, n: u32) -> Seq
@@ -97,53 +89,39 @@ impl Seq {
     }
 }
 
-// The number source. Its state goes in by value and comes back.
+/// The number source, which a host or a table holds where it stands: any `u32`.
+#[repr(C)]
 #[derive(Clone, Copy)]
 pub struct SeqAlloc {
-    pub next: Seq,
-}
-
-// What `alloc` leaves, and the first of the numbers that it hands out.
-#[derive(Clone, Copy)]
-pub struct Allocated {
-    pub source: SeqAlloc,
-    pub first: Seq,
+    pub next: u32,
 }
 
 impl SeqAlloc {
     pub fn new(next: Seq) -> SeqAlloc
-        ensures { result.next ≡ next }
+        ensures { result.next ≡ next.0 }
     {
-        SeqAlloc { next }
+        SeqAlloc { next: next.0 }
     }
 
-    // "`alloc` answers the next number and moves on by the count."
-    pub fn alloc(self, count: u32) -> Allocated
-        ensures { (result.source.next.0 ≡ Num.add self.next.0 count) × (result.first ≡ self.next) }
+    /// Answers the next number and moves on by the count.
+    pub fn alloc(&mut self, count: u32) -> Seq
+        ensures next { self.new.next ≡ Num.add self.old.next count }
+        ensures first { result.0 ≡ self.old.next }
     {
-        let first = self.next;
-        let source = SeqAlloc {
-            next: first.add(count),
-        };
-        Allocated { source, first }
+        let first = Seq(self.next);
+        self.next = first.add(count).0;
+        first
     }
 
-    // "`observe` moves to seq + 1 if that compares Greater than the next."
-    pub fn observe(self, seq: Seq) -> SeqAlloc
-        ensures { result.next.0 ≡ Num.observe_s self.next.0 seq.0 }
+    /// Moves to the number after `seq` where that compares Greater than the next.
+    pub fn observe(&mut self, seq: Seq)
+        ensures { self.new.next ≡ Num.observe_s self.old.next seq.0 }
     {
-        let next = self.next;
         let candidate = seq.add(1);
-        match candidate.compare(next) {
-            Order::Greater => {
-                return SeqAlloc { next: candidate };
-            }
-            Order::Equal => {
-                return self;
-            }
-            Order::Less => {
-                return self;
-            }
+        match candidate.compare(Seq(self.next)) {
+            Ordering::Greater => self.next = candidate.0,
+            Ordering::Equal => {}
+            Ordering::Less => {}
         }
     }
 }
@@ -152,7 +130,7 @@ impl SeqAlloc {
 pub fn prefix_sum(offset: u32, p0: u32, p1: u32) -> u32
     ensures { result ≡ prefix offset p0 p1 }
 {
-    let a = std::num::wrapping_add_u32(std::num::wrapping_add_u32(offset, p0), p1);
+    let a = offset.wrapping_add(p0).wrapping_add(p1);
     let b = a << 13;
     let c = (b ^ a) >> 17;
     let y = c ^ b ^ a;

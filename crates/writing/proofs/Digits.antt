@@ -1,5 +1,5 @@
 -- A number's digits: one more than its tenth has, at most ten for a u32; and read back they give the number. Assumes nothing.
-use mathlib.Core.Path.{◌≡◌, refl, ap}
+use mathlib.Core.Path.{◌≡◌, refl, sym, ap, ◌∙◌}
 use mathlib.Core.Bool.{Bool, true, false}
 use mathlib.Core.List.{List, [], ◌∷◌, ◌++◌}
 use Prim.Native.Nat.{ℕ, zero, suc, ◌+◌, ◌*◌, ◌-◌, ◌/◌, ◌%◌, ◌^◌, ◌≤◌, ◌<◌}
@@ -8,11 +8,15 @@ use native.Mathlib.Omega.{arith}
 use lib.Dec.{ltb}
 use lib.ListN.{length, get_or, length-append, get_or-append}
 use borrow.Author.Tests.{ltb-true, ltb-false, le-leb, ne_eqb}
-use Rattle.lists.specs.Pad.{all_b}
-use Rattle.lists.proofs.Pad.{and_left, and_right}
-use Rattle.lists.proofs.Tests.{all_b_snoc}
-use Rattle.words.specs.declared.Number.TheVariants.{Value}
-use Rattle.words.specs.Words.{is_digit, leading, value_from, value, number_of}
+use Rattle.list.specs.Pad.{all_b}
+use Rattle.list.proofs.Pad.{and_left, and_right}
+use Rattle.list.proofs.Tests.{all_b_snoc}
+use Rattle.reading.specs.Words.{is_digit, digits as run, leading, value_from, value, read, number_of}
+use lib.Seq.{take_at, drop_at}
+use Rattle.std.specs.declared.option.Option.TheVariants.{Some}
+use Rattle.std.specs.Fmt.{decimal}
+use Rattle.std.proofs.lemmas.Fmt.{decimal_by_steps}
+use Rattle.std.proofs.lemmas.List.Folds.{length-prefix_len}
 use Rattle.writing.specs.Answers.{last_after, digits_n, digits}
 
 -- fuel above the number changes nothing
@@ -41,6 +45,12 @@ digits_more n h = at (n / 10) refl
     at zero p = absurd (omega arith)
     at (suc q) p = ap (λ (ds : List ℕ). ds ++ (48 + n % 10) ∷ []) (same_digits n (suc (suc q)) (suc q) (omega arith) (omega arith))
 
+-- they are those that the library writes
+pub decimal_is : (n : ℕ) → n < 2 ^ 64 → decimal n ≡ digits n
+decimal_is n h =
+    decimal_by_steps (λ m ds. ds ≡ digits m) (λ m l. sym (digits_small m l))
+    (λ m ds l e. ap (λ (x : List ℕ). x ++ (48 + m % 10) ∷ []) e ∙ sym (digits_more m l)) n h
+
 -- ---- how many there are
 
 pub digits-short : (k n : ℕ) → n < 10 ^ suc k → length (digits n) ≤ suc k
@@ -56,12 +66,10 @@ digits-short (suc k) n h = at (ltb n 10) refl (λ a. digits-short k (n / 10) a)
 -- ---- read back
 
 value_last : (m : ℕ) (ds : List ℕ) (d : ℕ) → value_from m (ds ++ (48 + d) ∷ []) ≡ 10 * value_from m ds + d
-unfolding value_from
 value_last m [] d = omega arith
 value_last m (b ∷ ds) d = value_last (10 * m + (b - 48)) ds d
 
 value_back : (k n : ℕ) → n < k → value (digits n) ≡ n
-unfolding value_from
 value_back zero n h = absurd (omega arith)
 value_back (suc k) n h = at (ltb n 10) refl (λ a. value_back k (n / 10) a)
   where
@@ -94,11 +102,11 @@ all_back (suc k) n h = at (ltb n 10) refl (λ a. all_back k (n / 10) a)
 pub all_digits : (n : ℕ) → all_b is_digit (digits n) ≡ true
 all_digits n = all_back (suc n) n (omega arith)
 
-leading-all : (ds rest : List ℕ) → all_b is_digit ds ≡ true → leading rest ≡ [] → leading (ds ++ rest) ≡ ds
-unfolding all_b leading
-leading-all [] rest h e = e
-leading-all (b ∷ ds) rest h e =
-    rw (and_left (is_digit b) (all_b is_digit ds) h) (ap (λ (x : List ℕ). b ∷ x) (leading-all ds rest (and_right (is_digit b) (all_b is_digit ds) h) e))
+run_all : (ds rest : List ℕ) → all_b is_digit ds ≡ true → run rest ≡ 0 → run (ds ++ rest) ≡ length ds
+unfolding all_b
+run_all [] rest h z = z
+run_all (b ∷ ds) rest h z =
+    rw (and_left (is_digit b) (all_b is_digit ds) h) (omega (arith, run_all ds rest (and_right (is_digit b) (all_b is_digit ds) h) z))
 
 some_back : (k n : ℕ) → n < k → length (digits n) ≡ 0 → ⊥
 some_back zero n h z = omega arith
@@ -109,10 +117,11 @@ some_back (suc k) n h z = at (ltb n 10) refl
     at false p = omega (arith, ap length (digits_more n (ltb-false n 10 p)), length-append (digits (n / 10)) ((48 + n % 10) ∷ []))
 
 -- what is written is read back: a number that fits, before anything that begins with no digit
-pub read_back : (n most : ℕ) (rest : List ℕ) → n ≤ most → leading rest ≡ [] → number_of most (digits n ++ rest) ≡ Value n (length (digits n))
+pub read_back : (n most : ℕ) (rest : List ℕ) → n ≤ most → leading rest ≡ [] → number_of most (digits n ++ rest) ≡ Some (read n rest)
 unfolding number_of
 read_back n most rest h e =
-    rw (leading-all (digits n) rest (all_digits n) e, value-digits n, le-leb n most h, ne_eqb (length (digits n)) 0 (some_back (suc n) n (omega arith)))
+    let z : run rest ≡ 0 = omega (arith, length-prefix_len is_digit rest, ap length e) in
+    rw (run_all (digits n) rest (all_digits n) z, take_at (digits n) rest (length (digits n)) refl, drop_at (digits n) rest (length (digits n)) refl, ne_eqb (length (digits n)) 0 (some_back (suc n) n (omega arith)), value-digits n, le-leb n most h)
 
 -- "without leading zeros": no number but 0 begins with `0`
 first_back : (k n : ℕ) → n < k → 0 < n → 48 < get_or (digits n) 0 0

@@ -1,67 +1,43 @@
 -- What each return of the writers owes, over plain values. Assumes nothing.
 use mathlib.Core.Path.{◌≡◌, refl, sym, ap, ◌∙◌}
 use mathlib.Core.List.{List, [], ◌∷◌, ◌++◌, append_assoc, append-nil}
-use Prim.Native.Nat.{ℕ, suc, ◌+◌, ◌*◌, ◌-◌, ◌/◌, ◌%◌, ◌≤◌, ◌<◌}
+use Prim.Native.Nat.{ℕ, suc, ◌+◌, ◌*◌, ◌≤◌, ◌<◌}
 use native.Mathlib.Numerals.{add-one}
 use native.Mathlib.Omega.{arith}
 use mir.Syntax.{w32}
 use mir.Val.{Fits}
-use lib.ListN.{length, take, drop, get_or, set, length-append}
-use lib.Seq.{length-take-le, take-length, take-suc, paste, paste-zero, paste-suc, length-paste, set_split}
+use lib.ListN.{length, take, drop, get_or, set, length-append, length-set}
+use lib.Seq.{length-take-le, take-suc, take_all, set_split}
 use borrow.Author.Rules.{rules}
 use borrow.Author.Tests.{eq-eqb, ne_eqb}
-use Rattle.lists.specs.Find.{written_at}
-use Rattle.lists.proofs.Copies.{written_none, written_after}
+use Rattle.list.specs.Find.{written_at}
+use Rattle.list.proofs.Copies.{written_none, written_after}
+use Rattle.std.specs.Fmt.{decimal}
 use Rattle.packet.specs.declared.View.{View}
-use Rattle.words.specs.Text.{bytes}
+use Rattle.reading.specs.Text.{bytes}
 use Rattle.writing.specs.Answers.{digits, index_text, worded, ok_line, no_line, handles_text, bundle_line}
 use Rattle.writing.specs.Wrote.{Wrote}
-use Rattle.writing.proofs.Digits.{digits_small, digits_more, digits-short}
+use Rattle.writing.proofs.Digits.{digits-short, decimal_is}
 
 -- ---- bytes one after the other
 
-pub record Copying (old text : List ℕ) (at : ℕ) (new : List ℕ) (i : ℕ) : Type 0 where
-  pub within : i ≤ length text
-  pub room : at + length text ≤ length old
-  pub size : length new ≡ length old
-  pub list : new ≡ paste old at text i
-
-pub copy_start : (old text : List ℕ) (at : ℕ) → at + length text ≤ length old → Copying old text at old 0
-copy_start old text at h = record { within = omega arith; room = h; size = refl; list = paste-zero old at text }
-
-pub copy_step : (old text : List ℕ) (at : ℕ) (new : List ℕ) (i : ℕ) → Copying old text at new i → i < length text → Copying old text at (set new (at + i) (get_or text i 0)) (i + 1)
-copy_step old text at new i s h =
-    let r : at + length text ≤ length old = s.room in
-    let l : set new (at + i) (get_or text i 0) ≡ paste old at text (suc i) =
-    ap (λ (x : List ℕ). set x (at + i) (get_or text i 0)) s.list ∙ paste-suc old at text i 0 (omega arith) h in
-    record {
-      within = omega arith;
-      room = s.room;
-      size = ap length l ∙ length-paste old at text (suc i) (omega arith) (omega arith);
-      list = rw add-one l;
-    }
-
-pub copy_end : (old text : List ℕ) (at : ℕ) (new : List ℕ) (i : ℕ) → Copying old text at new i → length text ≤ i → Wrote (length text) old new at (at + i) text
+-- one byte is stored
+pub byte_stored : (old : List ℕ) (at b : ℕ) → at < length old → Wrote 1 old (set old at b) at (at + 1) (b ∷ [])
 unfolding written_at
-copy_end old text at new i s h =
-    let e : i ≡ length text = omega (arith, s.within) in
-    record {
-      place = ap (λ (k : ℕ). at + k) e;
-      short = omega arith;
-      list = s.list ∙ ap (λ (k : ℕ). take at old ++ take k text ++ drop (at + k) old) e ∙ ap (λ (x : List ℕ). take at old ++ x ++ drop (at + length text) old) (take-length text);
-    }
-
-pub digit_stored : (old : List ℕ) (at d : ℕ) → (at < length old) × (d < 10) → Wrote 1 old (set old at (48 + d)) at (at + 1) ((48 + d) ∷ [])
-unfolding written_at
-digit_stored old at d h =
+byte_stored old at b h =
     record {
       place = refl;
       short = omega arith;
+      size = length-set old at b;
       list =
-          set_split old at (48 + d) h.0
-          ∙ sym (append_assoc (take at old) ((48 + d) ∷ []) (drop (suc at) old))
-          ∙ ap (λ (k : ℕ). take at old ++ (48 + d) ∷ [] ++ drop k old) (sym (add-one at));
+          set_split old at b h
+          ∙ sym (append_assoc (take at old) (b ∷ []) (drop (suc at) old))
+          ∙ ap (λ (k : ℕ). take at old ++ b ∷ [] ++ drop k old) (sym (add-one at));
     }
+
+-- nothing is written yet
+pub nothing : (room at : ℕ) (old : List ℕ) → Wrote room old old at at []
+nothing room at old = record { place = omega arith; short = omega arith; size = refl; list = written_none at old }
 
 -- two texts one after the other
 pub then : (x y z : ℕ) (a b c s t : List ℕ) (at j k : ℕ) → at ≤ length a → x + y ≤ z → Wrote x a b at j s → Wrote y b c j k t → Wrote z a c at k (s ++ t)
@@ -69,6 +45,7 @@ then x y z a b c s t at j k h r p q =
     record {
       place = omega (arith, p.place, q.place, length-append s t);
       short = omega (arith, p.short, q.short, length-append s t);
+      size = q.size ∙ p.size;
       list = q.list ∙ ap (λ (i : ℕ). written_at i t b) p.place ∙ ap (λ (l : List ℕ). written_at (at + length s) t l) p.list ∙ written_after at s t a h;
     }
 
@@ -78,28 +55,37 @@ retold x y a b s t at k e r w =
     record {
       place = w.place ∙ ap (λ (l : List ℕ). at + length l) e;
       short = omega (arith, w.short, ap length e);
+      size = w.size;
       list = w.list ∙ ap (λ (l : List ℕ). written_at at l a) e;
     }
 
+-- ---- bytes one after the other
+
+pub text_step : (old mid new text : List ℕ) (at k j i : ℕ) → at + length text ≤ length old → i < length text → Wrote (length text) old mid at k (take i text)
+    → Wrote 1 mid new k j (get_or text i 0 ∷ []) → Wrote (length text) old new at j (take (i + 1) text)
+text_step old mid new text at k j i r h p q =
+    let n : length (take i text) ≡ i = length-take-le i text (omega arith) in
+    let more : take i text ++ get_or text i 0 ∷ [] ≡ take (i + 1) text = sym (ap (λ (m : ℕ). take m text) (add-one i) ∙ take-suc text i 0 h) in
+    let first : Wrote i old mid at k (take i text) = record { place = p.place; short = omega (arith, n); size = p.size; list = p.list } in
+    retold (length text) (length text) old new (take i text ++ get_or text i 0 ∷ []) (take (i + 1) text) at j more (omega arith)
+    (then i 1 (length text) old mid new (take i text) (get_or text i 0 ∷ []) at k j (omega arith) (omega arith) first q)
+
+pub text_end : (old new text : List ℕ) (at k i : ℕ) → length text ≤ i → Wrote (length text) old new at k (take i text) → Wrote (length text) old new at k text
+text_end old new text at k i h w = retold (length text) (length text) old new (take i text) text at k (take_all i text h) (omega arith) w
+
 -- ---- a number
 
-pub number_small : (a b : List ℕ) (at k n : ℕ) → n < 10 → Wrote 1 a b at k ((48 + n) ∷ []) → Wrote 10 a b at k (digits n)
-number_small a b at k n l w = retold 1 10 a b ((48 + n) ∷ []) (digits n) at k (sym (digits_small n l)) (omega arith) w
-
--- the tenth of a u32 has nine digits at most
-nine : (n : ℕ) → Fits w32 n → length (digits (n / 10)) ≤ 9
-nine n h =
+-- what the library writes of a u32
+pub number_made : (a b t : List ℕ) (at k n : ℕ) → Fits w32 n → t ≡ decimal n → Wrote (length t) a b at k t → Wrote 10 a b at k (digits n)
+number_made a b t at k n h e w =
     let l : n < 4294967296 = h.fits in
-    digits-short 8 (n / 10) (omega arith)
+    let d : t ≡ digits n = e ∙ decimal_is n (omega arith) in
+    retold (length t) 10 a b t (digits n) at k d (omega (arith, digits-short 9 n (omega arith), ap length d)) w
 
-pub number-place : (a b : List ℕ) (at j n : ℕ) → at + 10 ≤ length a → length b ≡ length a → Fits w32 n → Wrote 10 a b at j (digits (n / 10)) → j < length b
-number-place a b at j n h e l w = omega (arith, w.place, nine n l)
-
-pub number_more : (a b c : List ℕ) (at j k n : ℕ) → at + 10 ≤ length a → 10 ≤ n → Fits w32 n → Wrote 10 a b at j (digits (n / 10)) → Wrote 1 b c j k ((48 + n % 10) ∷ []) → Wrote 10 a c at k (digits n)
-number_more a b c at j k n h m l p q =
-    let tenth : Wrote 9 a b at j (digits (n / 10)) = record { place = p.place; short = nine n l; list = p.list } in
-    retold 10 10 a c (digits (n / 10) ++ (48 + n % 10) ∷ []) (digits n) at k (sym (digits_more n m)) (omega arith)
-    (then 9 1 10 a b c (digits (n / 10)) ((48 + n % 10) ∷ []) at j k (omega arith) (omega arith) tenth q)
+pub number_room : (t : List ℕ) (n : ℕ) → Fits w32 n → t ≡ decimal n → length t ≤ 10
+number_room t n h e =
+    let l : n < 4294967296 = h.fits in
+    omega (arith, digits-short 9 n (omega arith), ap length (e ∙ decimal_is n (omega arith)))
 
 pub worded-made : (a b c w : List ℕ) (at j k n : ℕ) → at + length w + 10 ≤ length a → Wrote (length w) a b at j w → Wrote 10 b c j k (digits n) → Wrote (length w + 10) a c at k (worded w n)
 unfolding worded
@@ -155,41 +141,38 @@ handles_last (x ∷ hs) h =
     ∙ sym (append_assoc (worded (bytes " ") x) (handles_text hs) (worded (bytes " ") h))
 
 -- old is the buffer as the loop finds it, and `at` the place after the count
-pub record Bundling (old handles : List ℕ) (at count : ℕ) (new : List ℕ) (k i : ℕ) : Type 0 where
-  pub few : count ≤ 64
-  pub known : count ≤ length handles
+pub record Bundling (old handles : List ℕ) (at : ℕ) (new : List ℕ) (k i : ℕ) : Type 0 where
+  pub few : length handles ≤ 64
   pub room : at + 783 ≤ length old
   pub size : length new ≡ length old
-  pub within : i ≤ count
+  pub within : i ≤ length handles
   pub far : k ≤ at + 11 * i
   pub wrote : Wrote (11 * i) old new at k (handles_text (take i handles))
 
-pub bundle-start : (first old handles : List ℕ) (from at count : ℕ) → (count ≤ 64) × (count ≤ length handles) × (from + 800 ≤ length first) → length old ≡ length first
-    → Wrote 17 first old from at (worded (bytes "bundle ") count) → Bundling old handles at count old at 0
+pub bundle_start : (first old handles : List ℕ) (from at : ℕ) → length handles ≤ 64 → from + 800 ≤ length first
+    → Wrote 17 first old from at (worded (bytes "bundle ") (length handles)) → Bundling old handles at old at 0
 unfolding handles_text
-bundle-start first old handles from at count h e w =
+bundle_start first old handles from at h r w =
     record {
-      few = h.0;
-      known = h.1;
-      room = omega (arith, h.2, w.place, w.short);
+      few = h;
+      room = omega (arith, r, w.place, w.short, w.size);
       size = refl;
       within = omega arith;
       far = omega arith;
-      wrote = record { place = omega arith; short = omega arith; list = written_none at old };
+      wrote = nothing 0 at old;
     }
 
-pub bundle-step : (old handles new next : List ℕ) (at count k j i : ℕ) → Bundling old handles at count new k i → i < count → length next ≡ length new
-    → Wrote 11 new next k j (worded (bytes " ") (get_or handles i 0)) → Bundling old handles at count next j (i + 1)
-bundle-step old handles new next at count k j i s h e w =
+pub bundle_step : (old handles new next : List ℕ) (at k j i : ℕ) → Bundling old handles at new k i → i < length handles
+    → Wrote 11 new next k j (worded (bytes " ") (get_or handles i 0)) → Bundling old handles at next j (i + 1)
+bundle_step old handles new next at k j i s h w =
     let one = worded (bytes " ") (get_or handles i 0) in
     let r : at + 783 ≤ length old = s.room in
     let more : handles_text (take i handles) ++ one ≡ handles_text (take (i + 1) handles) =
-    sym (ap (λ (m : ℕ). handles_text (take m handles)) (add-one i) ∙ ap handles_text (take-suc handles i 0 (omega (arith, s.known))) ∙ handles_last (take i handles) (get_or handles i 0)) in
+    sym (ap (λ (m : ℕ). handles_text (take m handles)) (add-one i) ∙ ap handles_text (take-suc handles i 0 h) ∙ handles_last (take i handles) (get_or handles i 0)) in
     record {
       few = s.few;
-      known = s.known;
       room = s.room;
-      size = e ∙ s.size;
+      size = w.size ∙ s.size;
       within = omega arith;
       far = omega (arith, s.far, w.place, w.short);
       wrote =
@@ -197,20 +180,17 @@ bundle-step old handles new next at count k j i s h e w =
           (then (11 * i) 11 (11 * (i + 1)) old new next (handles_text (take i handles)) one at k j (omega arith) (omega arith) s.wrote w);
     }
 
-pub bundle_end : (first old handles new next : List ℕ) (from at count k j i : ℕ) → (count ≤ 64) × (count ≤ length handles) × (from + 800 ≤ length first)
-    → Wrote 17 first old from at (worded (bytes "bundle ") count) → Bundling old handles at count new k i → count ≤ i → Wrote 1 new next k j (bytes "\n")
-    → Wrote 800 first next from j (bundle_line (take count handles))
+pub bundle_end : (first old handles new next : List ℕ) (from at k j i : ℕ) → from + 800 ≤ length first
+    → Wrote 17 first old from at (worded (bytes "bundle ") (length handles)) → Bundling old handles at new k i → length handles ≤ i → Wrote 1 new next k j (bytes "\n")
+    → Wrote 800 first next from j (bundle_line handles)
 unfolding bundle_line
-bundle_end first old handles new next from at count k j i r p s h w =
-    let o : from ≤ length first = omega (arith, r.2) in
-    let e : i ≡ count = omega (arith, s.within) in
-    let n : count ≡ length (take count handles) = sym (length-take-le count handles s.known) in
-    let t = worded (bytes "bundle ") count in
-    let m : t ++ handles_text (take i handles) ++ bytes "\n" ≡ worded (bytes "bundle ") (length (take count handles)) ++ handles_text (take count handles) ++ bytes "\n" =
-    ap (λ (x : ℕ). t ++ handles_text (take x handles) ++ bytes "\n") e ∙ ap (λ (x : ℕ). worded (bytes "bundle ") x ++ handles_text (take count handles) ++ bytes "\n") n in
+bundle_end first old handles new next from at k j i r p s h w =
+    let t = worded (bytes "bundle ") (length handles) in
+    let m : t ++ handles_text (take i handles) ++ bytes "\n" ≡ t ++ handles_text handles ++ bytes "\n" =
+    ap (λ (x : List ℕ). t ++ handles_text x ++ bytes "\n") (take_all i handles h) in
     let q : Wrote (17 + 11 * i) first new from k (t ++ handles_text (take i handles)) =
-    then 17 (11 * i) (17 + 11 * i) first old new t (handles_text (take i handles)) from at k o (omega arith) p s.wrote in
-    retold 800 800 first next (t ++ handles_text (take i handles) ++ bytes "\n") (worded (bytes "bundle ") (length (take count handles)) ++ handles_text (take count handles) ++ bytes "\n") from j m (omega arith)
-    (then (17 + 11 * i) 1 800 first new next (t ++ handles_text (take i handles)) (bytes "\n") from k j o (omega (arith, s.few)) q w)
+    then 17 (11 * i) (17 + 11 * i) first old new t (handles_text (take i handles)) from at k (omega arith) (omega arith) p s.wrote in
+    retold 800 800 first next (t ++ handles_text (take i handles) ++ bytes "\n") (t ++ handles_text handles ++ bytes "\n") from j m (omega arith)
+    (then (17 + 11 * i) 1 800 first new next (t ++ handles_text (take i handles)) (bytes "\n") from k j (omega arith) (omega (arith, s.few, s.within)) q w)
 
-pub ruleset places = (copy_start, copy_step, copy_end, digit_stored, number_small, number-place, number_more, worded-made, index-none, index_some, ok_off_lem, ok_on_lem, no_made, bundle-start, bundle-step, bundle_end, rules)
+pub ruleset places = (byte_stored, nothing, text_step, text_end, number_made, worded-made, index-none, index_some, ok_off_lem, ok_on_lem, no_made, rules)

@@ -3,7 +3,7 @@ use mathlib.Core.Path.{◌≡◌, refl}
 use mathlib.Core.List.{[], ◌∷◌}
 use Prim.Native.Nat.{ℕ}
 use Rattle.packet.specs.declared.View.{View}
-use Rattle.words.specs.Text.{bytes}
+use Rattle.reading.specs.Text.{bytes}
 use Rattle.writing.specs.Answers.{ok_line, no_line, bundle_line, none_line, handles_text, worded, index_text, digits, digits_n}
 
 abbrev on_view : ℕ → ℕ → ℕ → ℕ → View

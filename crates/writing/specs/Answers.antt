@@ -2,7 +2,7 @@
 use Rattle.std.specs.Prelude.{cond, List, [], ◌∷◌, ◌++◌, ℕ, zero, suc, ◌+◌, ◌/◌, ◌%◌, eqb, length}
 use Rattle.packet.specs.declared.View.{View}
 use Rattle.packet.specs.Data.{is_set}
-use Rattle.words.specs.Text.{bytes}
+use Rattle.reading.specs.Text.{bytes}
 
 -- a decimal number without leading zeros: the digits of its tenth where it has one, and then its last digit. A number is above its tenth, so
 -- its own value is enough fuel

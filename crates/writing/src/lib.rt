@@ -1,115 +1,130 @@
-// The driver's answers (01, "The driver"), written into a lent buffer from a place on. Each function answers the place after what it
-// wrote; the rest of the buffer keeps its contents.
+//! The driver's answers (01, "The driver"), each with its line feed, appended to a lent buffer.
 #![tactic(auto)]
 
-ghost use Rattle.std.specs.Prelude.{[], ◌∷◌, ◌+◌, ◌≤◌, ◌<◌, length, take};
+ghost use Rattle.std.specs.Prelude.{◌≡◌, [], ◌∷◌, ◌+◌, ◌≤◌, ◌<◌, length};
 ghost use Rattle.writing.specs.Answers as Answers;
 ghost use Rattle.writing.specs.Wrote.{Wrote};
 
 use packet::View;
 
-// Bytes as they stand.
-fn put_bytes(out: &mut [u8], at: usize, text: &[u8]) -> usize
-    requires { at + length text.now ≤ length out.old }
-    ensures { Wrote (length text.now) out.old out.new at result text.now }
-{
-    let mut i = 0;
-    while i < text.len() {
-        out[at + i] = text[i];
-        i += 1;
+/// A lent buffer, and how much of it is written. The rest keeps its contents.
+#[derive(Drop)]
+pub struct Page<'a> {
+    pub buf: &'a mut [u8],
+    pub len: usize,
+}
+
+impl Page<'_> {
+    fn push(&mut self, b: u8)
+        requires { self.old.len < length self.old.buf.now }
+        ensures same { self.new.buf.ghost_name ≡ self.old.buf.ghost_name }
+        ensures wrote { Wrote 1 self.old.buf.now self.new.buf.now self.old.len self.new.len (b ∷ []) }
+    {
+        self.buf[self.len] = b;
+        self.len += 1;
     }
-    at + i
-}
 
-fn put_digit(out: &mut [u8], at: usize, d: u32) -> usize
-    requires { (at < length out.old) × (d < 10) }
-    ensures { Wrote 1 out.old out.new at result ((48 + d) ∷ []) }
-{
-    out[at] = 48 + d as u8;
-    at + 1
-}
-
-// A decimal number without leading zeros: the digits of its tenth, and then its last one. A u32 has ten at most.
-fn put_number(out: &mut [u8], at: usize, n: u32) -> usize
-    requires { at + 10 ≤ length out.old }
-    ensures { Wrote 10 out.old out.new at result (Answers.digits n) }
-{
-    if n < 10 {
-        return put_digit(out, at, n);
+    // Bytes as they stand.
+    fn text(&mut self, text: &[u8])
+        requires { self.old.len + length text.now ≤ length self.old.buf.now }
+        ensures same { self.new.buf.ghost_name ≡ self.old.buf.ghost_name }
+        ensures wrote { Wrote (length text.now) self.old.buf.now self.new.buf.now self.old.len self.new.len text.now }
+    {
+        for b in text {
+            self.push(*b);
+        }
     }
-    let k = put_number(out, at, n / 10);
-    put_digit(out, k, n % 10)
-}
 
-// A word and its number.
-fn put_worded(out: &mut [u8], at: usize, w: &[u8], n: u32) -> usize
-    requires { at + length w.now + 10 ≤ length out.old }
-    ensures { Wrote (length w.now + 10) out.old out.new at result (Answers.worded w.now n) }
-{
-    let k = put_bytes(out, at, w);
-    put_number(out, k, n)
-}
-
-// `-` without index.
-fn put_index(out: &mut [u8], at: usize, i: u32) -> usize
-    requires { at + 10 ≤ length out.old }
-    ensures { Wrote 10 out.old out.new at result (Answers.index_text i) }
-{
-    if i == 0 {
-        return put_bytes(out, at, b"-");
+    // A decimal number without leading zeros. A u32 has ten digits at most.
+    fn number(&mut self, n: u32)
+        requires { self.old.len + 10 ≤ length self.old.buf.now }
+        ensures same { self.new.buf.ghost_name ≡ self.old.buf.ghost_name }
+        ensures wrote { Wrote 10 self.old.buf.now self.new.buf.now self.old.len self.new.len (Answers.digits n) }
+    {
+        let mut digits = itoa::Buffer::new();
+        self.text(digits.format(n).as_bytes());
     }
-    put_number(out, at, i)
-}
 
-// `ok off A`, `ok on A I exp N`.
-pub fn write_ok(out: &mut [u8], at: usize, v: View) -> usize
-    requires { at + 64 ≤ length out.old }
-    ensures { Wrote 64 out.old out.new at result (Answers.ok_line v) }
-{
-    if v.on != 1 {
-        let a = put_worded(out, at, b"ok off ", v.address);
-        return put_bytes(out, a, b"\n");
+    // A word and its number.
+    fn worded(&mut self, w: &[u8], n: u32)
+        requires { self.old.len + length w.now + 10 ≤ length self.old.buf.now }
+        ensures same { self.new.buf.ghost_name ≡ self.old.buf.ghost_name }
+        ensures wrote { Wrote (length w.now + 10) self.old.buf.now self.new.buf.now self.old.len self.new.len (Answers.worded w.now n) }
+    {
+        self.text(w);
+        self.number(n);
     }
-    let a = put_worded(out, at, b"ok on ", v.address);
-    let b = put_bytes(out, a, b" ");
-    let c = put_index(out, b, v.index);
-    let d = put_worded(out, c, b" exp ", v.expected);
-    put_bytes(out, d, b"\n")
-}
 
-// `no R`.
-pub fn write_no(out: &mut [u8], at: usize, n: u32) -> usize
-    requires { at + 64 ≤ length out.old }
-    ensures { Wrote 64 out.old out.new at result (Answers.no_line n) }
-{
-    let k = put_worded(out, at, b"no ", n);
-    put_bytes(out, k, b"\n")
-}
-
-pub fn write_bad(out: &mut [u8], at: usize) -> usize
-    requires { at + 64 ≤ length out.old }
-    ensures { Wrote 64 out.old out.new at result Answers.bad_line }
-{
-    put_bytes(out, at, b"bad\n")
-}
-
-pub fn write_none(out: &mut [u8], at: usize) -> usize
-    requires { at + 64 ≤ length out.old }
-    ensures { Wrote 64 out.old out.new at result Answers.none_line }
-{
-    put_bytes(out, at, b"none\n")
-}
-
-// `bundle`, count, handles: the first `count` of the list, 64 at most.
-pub fn write_bundle(out: &mut [u8], at: usize, handles: &[u32], count: usize) -> usize
-    requires { (count ≤ 64) × (count ≤ length handles.now) × (at + 800 ≤ length out.old) }
-    ensures { Wrote 800 out.old out.new at result (Answers.bundle_line (take count handles.now)) }
-{
-    let mut k = put_worded(out, at, b"bundle ", count as u32);
-    let mut i = 0;
-    while i < count {
-        k = put_worded(out, k, b" ", handles[i]);
-        i += 1;
+    // `-` without index.
+    fn index(&mut self, i: u32)
+        requires { self.old.len + 10 ≤ length self.old.buf.now }
+        ensures same { self.new.buf.ghost_name ≡ self.old.buf.ghost_name }
+        ensures wrote { Wrote 10 self.old.buf.now self.new.buf.now self.old.len self.new.len (Answers.index_text i) }
+    {
+        if i == 0 {
+            self.text(b"-");
+        } else {
+            self.number(i);
+        }
     }
-    put_bytes(out, k, b"\n")
+
+    /// `ok off A`, `ok on A I exp N`.
+    pub fn write_ok(&mut self, v: View)
+        requires { self.old.len + 64 ≤ length self.old.buf.now }
+        ensures same { self.new.buf.ghost_name ≡ self.old.buf.ghost_name }
+        ensures wrote { Wrote 64 self.old.buf.now self.new.buf.now self.old.len self.new.len (Answers.ok_line v) }
+    {
+        if v.on != 1 {
+            self.worded(b"ok off ", v.address);
+            self.text(b"\n");
+        } else {
+            self.worded(b"ok on ", v.address);
+            self.text(b" ");
+            self.index(v.index);
+            self.worded(b" exp ", v.expected);
+            self.text(b"\n");
+        }
+    }
+
+    /// `no R`.
+    pub fn write_no(&mut self, n: u32)
+        requires { self.old.len + 64 ≤ length self.old.buf.now }
+        ensures same { self.new.buf.ghost_name ≡ self.old.buf.ghost_name }
+        ensures wrote { Wrote 64 self.old.buf.now self.new.buf.now self.old.len self.new.len (Answers.no_line n) }
+    {
+        self.worded(b"no ", n);
+        self.text(b"\n");
+    }
+
+    /// `bad`.
+    pub fn write_bad(&mut self)
+        requires { self.old.len + 64 ≤ length self.old.buf.now }
+        ensures same { self.new.buf.ghost_name ≡ self.old.buf.ghost_name }
+        ensures wrote { Wrote 64 self.old.buf.now self.new.buf.now self.old.len self.new.len Answers.bad_line }
+    {
+        self.text(b"bad\n");
+    }
+
+    /// `none`.
+    pub fn write_none(&mut self)
+        requires { self.old.len + 64 ≤ length self.old.buf.now }
+        ensures same { self.new.buf.ghost_name ≡ self.old.buf.ghost_name }
+        ensures wrote { Wrote 64 self.old.buf.now self.new.buf.now self.old.len self.new.len Answers.none_line }
+    {
+        self.text(b"none\n");
+    }
+
+    /// `bundle`, count, handles: 64 at most.
+    pub fn write_bundle(&mut self, handles: &[u32])
+        requires few { length handles.now ≤ 64 }
+        requires room { self.old.len + 800 ≤ length self.old.buf.now }
+        ensures same { self.new.buf.ghost_name ≡ self.old.buf.ghost_name }
+        ensures wrote { Wrote 800 self.old.buf.now self.new.buf.now self.old.len self.new.len (Answers.bundle_line handles.now) }
+    {
+        self.worded(b"bundle ", handles.len() as u32);
+        for h in handles {
+            self.worded(b" ", *h);
+        }
+        self.text(b"\n");
+    }
 }

@@ -1,4 +1,0 @@
-pub mod Form
-pub mod One
-pub mod Forwarded
-pub mod Test

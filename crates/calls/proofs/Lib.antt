@@ -1,4 +1,0 @@
-pub mod Called
-pub mod Room
-pub mod Placing
-pub mod Timed

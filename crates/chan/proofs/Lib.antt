@@ -1,0 +1,16 @@
+pub mod Back
+pub mod TestForms
+pub mod Frame
+pub mod Shorter
+pub mod Ruled
+pub mod Forms
+pub mod Room
+pub mod Steps
+pub mod Runs
+pub mod Moves
+pub mod Arrivals
+pub mod Fits
+pub mod Came
+pub mod Adding
+pub mod Acked
+pub mod Sent

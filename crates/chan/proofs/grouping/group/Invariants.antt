@@ -1,0 +1,14 @@
+use Rattle.std.proofs.Common.{◌≡◌, ◌≤◌, ◌-◌, length, drop}
+use Rattle.model.specs.Group.{before, group}
+use Rattle.queues.specs.Made.{bundles_of, IsBundles}
+use Rattle.chan.proofs.grouping.group.Given as goal
+
+abbrev pub invariant-loop-n : goal.invariant-loop-n
+invariant-loop-n l = record {
+  within : l.at ≤ length l.packets;
+  bundles : IsBundles l.made;
+  rest : before (bundles_of l.made) (group (drop l.at l.packets)) ≡ before (bundles_of l.initial.made) (group l.packets);
+}
+
+abbrev pub decreases-loop-n : goal.decreases-loop-n
+decreases-loop-n l = length l.packets - l.at

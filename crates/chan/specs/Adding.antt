@@ -1,0 +1,34 @@
+-- A packet off the reliable path, step by step.
+use Rattle.std.specs.Prelude.{◌≡◌, true, ℕ, [], ◌∷◌, ◌++◌, Result, ⊤, get_or}
+use Rattle.packet.specs.declared.Packet.{Packet}
+use Rattle.model.specs.State as model
+use Rattle.model.specs.Refusals.{Refusal}
+use Rattle.model.specs.Group.{Stored, done, present, create, stale, is_beyond, new_group, span, store, stored_in}
+use Rattle.queues.specs.Places.{no_group}
+use Rattle.chan.specs.declared.OffData.{OffData}
+use Rattle.chan.specs.Channels.{data_of}
+use Rattle.chan.specs.Settled.{settled_data}
+
+-- the answer, and what the lists then hold, are what the relay makes of that outcome
+pub record Gives (outcome : Stored) (m : model.OffData) (r : Result ⊤ Refusal) (d : OffData) : Type 0 where
+  pub answer : r ≡ (settled_data outcome m).result
+  pub items : data_of d ≡ (settled_data outcome m).channel
+
+abbrev pub group_in : ℕ → model.OffData → model.Group
+group_in g m = get_or m.groups g no_group
+
+-- a bundle of one
+abbrev pub one : ℕ → model.OffData → Stored
+one h m = done (model.with_bundles (m.bundles ++ (h ∷ []) ∷ []) m)
+
+-- a fragment at place i of the group that stands at g
+abbrev pub at : ℕ → ℕ → ℕ → ℕ → model.OffData → Stored
+at g i h t m = present (stale t (group_in g m)) (is_beyond i (group_in g m)) i h t (group_in g m) m
+
+-- one that fills that group
+abbrev pub filling : ℕ → ℕ → ℕ → ℕ → model.OffData → Stored
+filling g i h t m = done (stored_in true (store i h t (group_in g m)) m)
+
+-- a fragment at place i of a new group
+abbrev pub in_new : Packet → ℕ → ℕ → model.OffData → Stored
+in_new p i t m = create (is_beyond i (new_group p.first (span p.first p.last) t)) i p.handle t (new_group p.first (span p.first p.last) t) m

@@ -1,0 +1,10 @@
+pub mod Channels
+pub mod Settled
+pub mod Tests
+pub mod Fronts
+pub mod Arriving
+pub mod Adding
+pub mod Good
+pub mod Rules
+pub mod Forwarding
+pub mod Sends

@@ -1,4 +1,0 @@
-pub mod Fresh
-pub mod Model
-pub mod Out
-pub mod Steps

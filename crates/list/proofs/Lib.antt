@@ -1,0 +1,15 @@
+pub mod Pad
+pub mod Tests
+pub mod Find
+pub mod Slot
+pub mod Joined
+pub mod Maps
+pub mod Positions
+pub mod Looking
+pub mod Copies
+pub mod Sums
+pub mod Arrays
+pub mod Edits
+pub mod Std
+pub mod Swaps
+pub mod Firsts

@@ -1,3 +1,0 @@
-pub mod OneList
-pub mod Slide
-pub mod Turns

@@ -1,2 +1,0 @@
-mod Acked
-pub mod Off

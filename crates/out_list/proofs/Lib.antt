@@ -1,4 +1,0 @@
-pub mod Form
-pub mod Places
-pub mod Acks
-pub mod Held

@@ -1,0 +1,16 @@
+pub mod Search
+pub mod Cuts
+pub mod Back
+pub mod Handles
+pub mod Fronts
+pub mod OutSearch
+pub mod Resent
+pub mod Swapped
+pub mod Quiet
+pub mod OneGroup
+pub mod AllGroups
+pub mod Folds
+pub mod Firsts
+pub mod Forms
+pub mod TestForms
+pub mod TestMeaning

@@ -1,0 +1,50 @@
+-- The search from the end.
+use Rattle.std.proofs.Common.{◌≡◌, ℕ, zero, suc, ◌+◌, ◌≤◌, ◌<◌, List, ◌∷◌, take, drop, length-append, length-take, length-drop, length, get_or, refl, arith, add-one, ap, sym, ◌∙◌}
+use Rattle.std.specs.declared.cmp.Ordering.{Ordering}
+use Rattle.std.specs.declared.cmp.Ordering.TheVariants.{Less, Equal, Greater}
+use Rattle.seq.specs.Num.{cmp}
+use Rattle.packet.specs.declared.Packet.{Packet}
+use Rattle.std.specs.declared.option.Option.{Option}
+use Rattle.std.specs.declared.option.Option.TheVariants.{None, Some}
+use Rattle.packet.specs.Data.{no_packet}
+use Rattle.std.specs.Prelude.{insert}
+use Rattle.list.proofs.Pad.{never}
+use Rattle.model.specs.Acks.{look, search, inserted_at}
+use Rattle.model.specs.Reorder.{packet_number, insert_buffered}
+
+pub search_none : (n : ℕ) (l : List Packet) (i : ℕ) → i ≤ 0 → search packet_number no_packet n l i ≡ Some 0
+unfolding search
+search_none n l zero h = refl
+search_none n l (suc i) h = absurd (omega arith)
+
+pub search_step : (n : ℕ) (l : List Packet) (i : ℕ)
+    → search packet_number no_packet n l (i + 1) ≡ look (cmp n (get_or l i no_packet).number) i (search packet_number no_packet n l i)
+unfolding search
+search_step n l i = rw add-one refl
+
+look_le : (o : Ordering) (i k : ℕ) (front : Option ℕ) → (front ≡ Some k → k ≤ i) → look o i front ≡ Some k → k ≤ suc i
+look_le Less i k front h q = omega (arith, h q)
+look_le Equal i k front h q = never (cc)
+look_le Greater i k front h q = let p : suc i ≡ k = cc in omega arith
+
+-- the place is one of the list's
+pub search_le : (n : ℕ) (l : List Packet) (i k : ℕ) → search packet_number no_packet n l i ≡ Some k → k ≤ i
+unfolding search
+search_le n l zero k q = let p : 0 ≡ k = cc in omega arith
+search_le n l (suc i) k q = look_le (cmp n (get_or l i no_packet).number) i k (search packet_number no_packet n l i) (search_le n l i k) q
+
+pub again : (p : Packet) (b : List Packet) (o : Option ℕ) → o ≡ search packet_number no_packet p.number b (length b) → o ≡ None → insert_buffered p b ≡ b
+unfolding insert_buffered
+again p b o e a = ap (λ (x : Option ℕ). inserted_at x p b) (sym e ∙ a)
+
+pub placed : (p : Packet) (b : List Packet) (o : Option ℕ) (k : ℕ) → o ≡ search packet_number no_packet p.number b (length b) → o ≡ Some k → insert_buffered p b ≡ insert b k p
+unfolding insert_buffered
+placed p b o k e a = ap (λ (x : Option ℕ). inserted_at x p b) (sym e ∙ a)
+
+pub within : (p : Packet) (b : List Packet) (o : Option ℕ) (k : ℕ) → o ≡ search packet_number no_packet p.number b (length b) → o ≡ Some k → k ≤ length b
+within p b o k e a = search_le p.number b (length b) k (sym e ∙ a)
+
+pub too_long : (p : Packet) (b : List Packet) (o : Option ℕ) (k : ℕ) → o ≡ search packet_number no_packet p.number b (length b) → o ≡ Some k → 32 ≤ length b → 32 < length (insert_buffered p b)
+too_long p b o k e a full =
+    let w = within p b o k e a in
+    omega (arith, ap length (placed p b o k e a), length-append (take k b) (p ∷ drop k b), length-take k b, length-drop k b)

@@ -1,3 +1,0 @@
-pub mod Channels
-pub mod Calm
-pub mod Counts

@@ -1,7 +1,0 @@
-pub mod Step
-pub mod Judge
-pub mod Answer
-pub mod Turn
-pub mod Aims
-pub mod Arms
-pub mod Door

@@ -1,3 +1,0 @@
-mod Parts
-pub mod Drops
-pub mod On

@@ -1,2 +1,0 @@
-pub mod Door
-pub mod Still

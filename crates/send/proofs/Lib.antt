@@ -1,2 +1,0 @@
-pub mod Sent
-pub mod Preparing

@@ -1,0 +1,15 @@
+-- An argument is refused, or passes its test. Assumes nothing.
+use Rattle.seq_c.proofs.HostSteps.{host}
+use Rattle.seq_c.proofs.relay_seq_add.Goals as goal
+
+pub legal-requires : goal.legal-requires
+legal-requires c = search host
+
+pub returns-then-not-legal : goal.returns-then-not-legal
+returns-then-not-legal c = search host
+
+pub add-sum-requires : goal.add-sum-requires
+add-sum-requires c = search host
+
+pub returns : goal.returns
+returns c = search host

@@ -1,0 +1,21 @@
+-- An argument is refused, or passes its test. Assumes nothing.
+use Rattle.seq_c.proofs.HostSteps.{host}
+use Rattle.seq_c.proofs.relay_seq_distance.Goals as goal
+
+pub legal-requires : goal.legal-requires
+legal-requires c = search host
+
+pub returns-then-not-legal : goal.returns-then-not-legal
+returns-then-not-legal c = search host
+
+pub legal-requires-2 : goal.legal-requires-2
+legal-requires-2 c = search host
+
+pub returns-then-not-legal-2 : goal.returns-then-not-legal-2
+returns-then-not-legal-2 c = search host
+
+pub distance-distance-requires : goal.distance-distance-requires
+distance-distance-requires c = search host
+
+pub returns : goal.returns
+returns c = search host

@@ -1,0 +1,11 @@
+pub mod Tables
+pub mod Test
+pub mod Calls
+pub mod Answers
+pub mod Played
+pub mod Good
+pub mod Offers
+pub mod Keyed
+pub mod Found
+pub mod Loose
+pub mod Resending

@@ -1,4 +1,0 @@
-pub mod Table
-pub mod Keys
-pub mod Forms
-pub mod Places

@@ -1,3 +1,0 @@
-pub mod Small
-pub mod Made
-pub mod Numbers

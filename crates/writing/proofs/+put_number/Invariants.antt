@@ -1,5 +1,0 @@
--- A number ends by its tenth.
-use Rattle.writing.proofs.+put_number.Given as goal
-
-abbrev pub decreases-put_number : goal.decreases-put_number
-decreases-put_number l = l.n
