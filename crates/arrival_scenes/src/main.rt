@@ -8,7 +8,7 @@ ghost use Rattle.chan.specs.Channels.{IsOnChannel};
 use chan::OnChannel;
 use list::Full;
 use packet::{Packet, Refusal};
-use print::{Answer, Made, YesNo};
+use print::{After, Answer, YesNo};
 use std::io::Write;
 use std::{fmt, io};
 
@@ -216,11 +216,11 @@ struct Packets<'a>(&'a [Packet]);
 impl fmt::Display for Packets<'_> {
     fn fmt<W: fmt::Write>(&self, f: &mut fmt::Formatter<W>) -> fmt::Result {
         for p in self.0 {
-            write!(f, " {},{},", p.number, p.handle)?;
+            write!(f, " {}{}", p.number, After(p.handle.into()))?;
             if p.ranged == 1 {
-                write!(f, "{}..{}", p.first, p.last)?;
+                write!(f, "{}..{}", After(p.first.into()), p.last)?;
             } else {
-                f.write_str("-")?;
+                f.write_str(",-")?;
             }
         }
         Ok(())
@@ -233,7 +233,8 @@ fn write_scene<W: Write>(out: &mut W, name: &str, steps: &[Step]) -> io::Result<
     write!(out, "{name}: {answer} expected {}", c.expected)?;
     write!(out, " buffer{}", Packets(c.buffer.as_slice()))?;
     write!(out, " queue{}", Packets(c.queue.as_slice()))?;
-    writeln!(out, " bundles{}", Made(&c.off.bundles))
+    print::all_bundles(out, &c.off.bundles)?;
+    writeln!(out)
 }
 
 /// A handle is held in the buffer, in the contiguous queue, and in a bundle not yet handed out.
@@ -252,17 +253,25 @@ fn write_tests<W: Write>(out: &mut W) -> io::Result<()> {
     let (c, _) = play(&[Bare(3, 23), Bare(5, 25)]);
     print::test(
         out,
-        "a buffer 3 5 where 2 is expected",
+        b"a buffer 3 5 where 2 is expected:",
         c.buffer.is_buffer(2),
     )?;
     print::test(
         out,
-        "a buffer 3 5 where 3 is expected",
+        b"a buffer 3 5 where 3 is expected:",
         c.buffer.is_buffer(3),
     )?;
     let (c, _) = play(&[Parts(0, 2, [0, 3])]);
-    print::test(out, "a queue 0 1 where 2 is expected", c.queue.is_queue(2))?;
-    print::test(out, "a queue 0 1 where 3 is expected", c.queue.is_queue(3))
+    print::test(
+        out,
+        b"a queue 0 1 where 2 is expected:",
+        c.queue.is_queue(2),
+    )?;
+    print::test(
+        out,
+        b"a queue 0 1 where 3 is expected:",
+        c.queue.is_queue(3),
+    )
 }
 
 fn main(rt: HostRuntime) -> io::Result<()> {

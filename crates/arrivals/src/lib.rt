@@ -4,7 +4,7 @@
 ghost use Rattle.std.specs.Prelude.{◌≡◌, OnOk, OnErr};
 ghost use Rattle.model.specs.Reorder.{fresh};
 ghost use Rattle.order.specs.InOrder.{HasOrdered};
-ghost use Rattle.chan.specs.Channels.{IsOnChannel};
+ghost use Rattle.chan.specs.Channels.{on_of, IsOnChannel};
 ghost use Rattle.chan.specs.Arriving.{reliable};
 ghost use Rattle.arrivals.specs.Refused.{FrontOrdered};
 
@@ -19,7 +19,7 @@ pub fn receive(channel: &mut OnChannel, packets: &[Packet]) -> Result<(), Full>
     requires new { reliable channel.old ≡ fresh }
     ensures channel { IsOnChannel channel.new }
     ensures ordered { OnOk result (HasOrdered packets.now (reliable channel.new)) }
-    ensures refused { OnErr result (FrontOrdered packets.now (reliable channel.new)) }
+    ensures refused { OnErr result (FrontOrdered packets.now (on_of channel.new)) }
 {
     for p in packets {
         channel.add_in_reliable_packet(*p)?;

@@ -128,6 +128,36 @@ module _ (t : ℕ) (r : Record) (m : OffChannel) where
       at false true s q = absurd (is_err _ (sym q))
       at true last s q = never (sym s)
 
+-- ---- forwarding plays no part in what a record is refused with
+
+module _ (f : Bool) (t : ℕ) (r : Record) (m : OnChannel) where
+  room_same : (b : Bool) (x y : OnChannel) → (within b x m).result ≡ (within b y m).result
+  room_same true x y = refl
+  room_same false x y = refl
+
+  run_same : (b : Bool) (x y : OnChannel) → fits_on x ≡ fits_on y → (settled fits_on (run_of b x) m).result ≡ (settled fits_on (run_of b y) m).result
+  unfolding settled
+  run_same true x y e = ap (λ (z : Bool). (within z x m).result) e ∙ room_same (fits_on y) x y
+  run_same false x y e = ap (λ (z : Bool). (within z x m).result) e ∙ room_same (fits_on y) x y
+
+  reliable_same : (c : OnChannel) → (settled fits_on (reliable_in false r c) m).result ≡ (settled fits_on (reliable_in f r c) m).result
+  unfolding reliable_in
+  reliable_same c = run_same (panics (reorder (reliable_of c) (packet r)).queue) _ _ refl
+
+  rules_same : (a b : Bool) (c : OnChannel) → (settled fits_on (rules_on a b false t r c) m).result ≡ (settled fits_on (rules_on a b f t r c) m).result
+  rules_same true true c = refl
+  rules_same true false c = reliable_same c
+  rules_same false true c = refl
+  rules_same false false c = refl
+
+  pub code_forwarded : (settled fits_on (on_record false t r m) m).result ≡ (settled fits_on (on_record f t r m) m).result
+  unfolding on_record
+  code_forwarded = at (ltb (version_of r) m.version)
+    where
+      at : (b : Bool) → (settled fits_on (current b false t r m) m).result ≡ (settled fits_on (current b f t r m) m).result
+      at true = refl
+      at false = rules_same (is_set r.reliable) (is_set r.haslast) (on_acked r m)
+
 -- ---- a packet off the reliable path, with these acks beside
 
 module _ (t : ℕ) (r : Record) (m : OnChannel) (w : fits_on m ≡ true) where

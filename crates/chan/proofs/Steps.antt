@@ -1,7 +1,7 @@
 -- One look at the front of a queue, and the grouping by such looks.
 use Rattle.std.proofs.Common.{◌≡◌, ℕ, ◌+◌, ◌-◌, ◌≤◌, ◌<◌, ◌⊎◌, inl, inr, Bool, true, false, ◌&&◌, eqb, ltb, List, [], ◌∷◌, ◌++◌, length, get_or, take, drop, refl, arith, ap, sym, ◌∙◌, eq-eqb, ne_eqb, append_assoc, length-append, length-drop, length-take}
 use borrow.Author.Tests.{lt-ltb, le-ltb}
-use Rattle.std.proofs.lemmas.List.{length-map, append-nil}
+use Rattle.std.proofs.lemmas.List.{length-map, append-nil, take-append-le}
 use lib.Seq.{drop-drop, take_all}
 use Rattle.seq.specs.Num.{dist}
 use Rattle.list.specs.Find.{joined}
@@ -129,3 +129,7 @@ part_at ps at n = ap (λ (k : ℕ). take k (drop at ps)) (omega arith)
 
 pub part_size : (ps : List Packet) (at n : ℕ) → n ≤ length (drop at ps) → length (take ((at + n) - at) (drop at ps)) ≡ n
 part_size ps at n le = omega (arith, length-take ((at + n) - at) (drop at ps))
+
+-- bundles that stand first still do with more after them
+pub still_first : (old made more : List (List ℕ)) → take (length old) made ≡ old → take (length old) (made ++ more) ≡ old
+still_first old made more h = take-append-le (length old) made more (omega (arith, ap length h, length-take (length old) made)) ∙ h

@@ -1,6 +1,6 @@
 -- The tests of a channel: each is true exactly where its record of Good holds; which says that the channel is in its form and that the
 -- model's test is true of what it stands for. Assumes nothing.
-use Rattle.std.proofs.Common.{◌≡◌, ℕ, ◌-◌, true, ◌&&◌, List, length, drop, replicate, refl, sym, ap, arith, ◌∙◌}
+use Rattle.std.proofs.Common.{◌≡◌, ◌↔◌, ℕ, ◌-◌, true, ◌&&◌, List, length, drop, replicate, refl, sym, ap, arith, ◌∙◌}
 use borrow.Author.Tests.{leb-true, le-leb, eqb-true, eq-eqb}
 use lib.Dec.{eqb}
 use Rattle.std.proofs.lemmas.List.Elements.{All-nil}
@@ -83,6 +83,10 @@ off_model latest c g = data_model latest c.off g.lists
 pub off_from : (latest : ℕ) (c : OffChannel) → IsOffChannel c → off_good latest (off_of c) ≡ true → IsGoodOff latest c
 off_from latest c w h = record { lists = data_from latest c.off w.off h }
 
+pub off_test-iff : (latest : ℕ) (c : OffChannel) → off_test latest c ≡ true ↔ (IsOffChannel c × (off_good latest (off_of c) ≡ true))
+off_test-iff latest c =
+    ((λ q. let g = off_is latest c q in (off_form latest c g, off_model latest c g)), λ p. is_off_good latest c (off_from latest c p.0 p.1))
+
 -- ---- on-channels
 
 numbers_is : (c : OnChannel) → numbers_good c ≡ true → AreGoodNumbers c
@@ -140,6 +144,9 @@ on_from latest c w h =
       buffer = buffer_from c.expected c.buffer w.buffer l.4 l.6;
       queue = queue_from c.expected c.queue w.queue l.5 l.7;
     }
+
+pub on_test-iff : (latest : ℕ) (c : OnChannel) → on_test latest c ≡ true ↔ (IsOnChannel c × (on_good latest (on_of c) ≡ true))
+on_test-iff latest c = ((λ q. let g = on_is latest c q in (on_form latest c g, on_model latest c g)), λ p. is_on_good latest c (on_from latest c p.0 p.1))
 
 -- ---- nothing in it
 

@@ -1,9 +1,10 @@
 -- An on-channel's reliable side while a packet arrives.
-use Rattle.std.specs.Prelude.{◌≡◌, Bool, false, cond, ◌&&◌, List, [], ◌∷◌, ◌++◌, ℕ, suc, eqb, leb, length}
+use Rattle.std.specs.Prelude.{◌≡◌, Bool, not, cond, ◌&&◌, List, [], ◌∷◌, ◌++◌, ℕ, suc, eqb, leb, length}
 use Rattle.list.specs.Find.{joined}
 use Rattle.seq.specs.Num.{add}
 use Rattle.seq.specs.declared.SeqAlloc.{SeqAlloc}
 use Rattle.packet.specs.declared.Packet.{Packet}
+use Rattle.packet.specs.Data.{is_set}
 use Rattle.model.specs.State as model
 use Rattle.model.specs.Reorder.{Reliable, move}
 use Rattle.model.specs.Record.{reliable_of}
@@ -52,7 +53,11 @@ advanced r p = move (add r.expected 1) r.buffer (r.queue ++ p ∷ []) r.bundles
 abbrev pub within : Reliable → Bool
 within m = leb (length m.buffer) 32 && (leb (length m.queue) 32 && (leb (length m.bundles) 16 && leb (length (joined m.bundles)) 64))
 
--- nothing waits, and the packet comes in order and has no range
+-- the test whether nothing waits, and the packet comes in order and has no range
+abbrev pub comes_alone : OnChannel → Packet → Bool
+comes_alone c p = eqb c.buffer.len 0 && eqb c.queue.len 0 && not (is_set p.ranged) && eqb p.number c.expected
+
+-- which says this of the reliable side
 pub record Alone (r : Reliable) (p : Packet) : Type 0 where
   pub buffer : r.buffer ≡ []
   pub queue : r.queue ≡ []

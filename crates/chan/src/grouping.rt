@@ -1,6 +1,6 @@
 //! Bundles from the front of a contiguous queue.
 
-ghost use Rattle.std.specs.Prelude.{◌≡◌, ◌++◌, ◌≤◌, length, drop, IfOk, OnOk, OnErr};
+ghost use Rattle.std.specs.Prelude.{◌≡◌, ◌++◌, ◌≤◌, length, take, drop, IfOk, OnOk, OnErr};
 ghost use Rattle.packet.specs.Data.{range_of};
 ghost use Rattle.model.specs.Group.{is_range, share, step, group};
 ghost use Rattle.queues.specs.Made.{bundles_of, IsBundles};
@@ -33,8 +33,9 @@ fn share(packets: &[Packet], first: u32, last: u32) -> bool
 }
 
 /// One look at the front: a packet without a range is a bundle of one, one that does not start its range is dropped, and a range of which
-/// all have come is a bundle, or dropped where they do not share it.
-fn front(queue: &[Packet]) -> Pop
+/// all have come is a bundle, or dropped where they do not share it. An empty queue, and a range of which some have not come, says to
+/// stop. For any packets, and nothing changes.
+pub fn front(queue: &[Packet]) -> Pop
     ensures says { told result queue.now ≡ step queue.now }
     ensures most { taken result ≤ length queue.now }
 {
@@ -59,12 +60,14 @@ fn front(queue: &[Packet]) -> Pop
     }
 }
 
-/// Makes bundles of the packets in front until it stops, and answers how many packets it took. After an `Err` the bundles are in no
-/// state to go on with: work on a copy.
+/// Makes bundles of the packets in front until it stops, and answers how many packets it took. `Full` says that they would be more than 16
+/// bundles, or more than 64 handles in all: those that waited are still the first, and those that found room stand after them. To have
+/// none of them, work on a copy.
 pub fn group(made: &mut Bundles, packets: &[Packet]) -> Result<usize, Full>
     requires { IsBundles made.old }
     ensures full { OnErr result (TooMany (bundles_of made.old ++ (group packets.now).made)) }
-    ensures bundles { OnOk result (IsBundles made.new) }
+    ensures bundles { IsBundles made.new }
+    ensures first { take (length (bundles_of made.old)) (bundles_of made.new) ≡ bundles_of made.old }
     ensures items { OnOk result (bundles_of made.new ≡ bundles_of made.old ++ (group packets.now).made) }
     ensures within { IfOk result (λ n. n ≤ length packets.now) }
     ensures rest { IfOk result (λ n. drop n packets.now ≡ (group packets.now).rest) }

@@ -1,7 +1,8 @@
-//! One record on its channel, of either kind.
+//! One record on its channel, of either kind. The record may be any, also one that is not well made: a flag that is not 1 is not set, and
+//! a count past its eight single acks is of all eight.
 
 ghost use Rattle.std.specs.Prelude.{◌≡◌, ◌<◌, true, [], ◌∷◌, ◌++◌, leb, length};
-ghost use Rattle.packet.specs.Data.{well_made, is_set};
+ghost use Rattle.packet.specs.Data.{is_set};
 ghost use Rattle.model.specs.State as model;
 ghost use Rattle.model.specs.Record.{on_record, off_record, reliable_in, loose_on, loose_off, queued, granted, observed_if};
 ghost use Rattle.model.specs.Rust.{forward_on, forward_off};
@@ -59,11 +60,12 @@ impl OnChannel {
         }
     }
 
-    /// A forwarding relay goes on sending after the numbers that it has seen.
-    fn observe(&mut self, forwarding: bool, number: u32)
-        requires { IsOnChannel self.old }
-        ensures channel { IsOnChannel self.new }
+    /// A forwarding relay goes on sending after the numbers that it has seen: the source moves to the number after `number` where that
+    /// compares Greater than its next. Without forwarding, nothing changes. For any channel.
+    pub fn observe(&mut self, forwarding: bool, number: u32)
+        ensures channel { IsOnChannel self.old → IsOnChannel self.new }
         ensures items { on_of self.new ≡ model.with_source (observed_if forwarding self.old.source.next number) (on_of self.old) }
+        ensures others { self.new ≡ record self.old { source = self.new.source } }
     {
         if forwarding {
             self.source.observe(Seq(number));
@@ -72,8 +74,7 @@ impl OnChannel {
 
     /// A reliable record. What may be refused comes first, so that a refused record leaves the channel as it was.
     fn accept_reliable(&mut self, forwarding: bool, r: &Record) -> Result<(), Refusal>
-        requires channel { IsOnChannel self.old }
-        requires made { well_made r.now ≡ true }
+        requires { IsOnChannel self.old }
         ensures channel { IsOnChannel self.new }
         ensures result { result ≡ (settled fits_on (reliable_in forwarding r.now (on_acked r.now (on_of self.old))) (on_of self.old)).result }
         ensures items { on_of self.new ≡ (settled fits_on (reliable_in forwarding r.now (on_acked r.now (on_of self.old))) (on_of self.old)).channel }
@@ -90,8 +91,7 @@ impl OnChannel {
 
     /// A record off the reliable path: a bundle of one, or a fragment. Its acks touch neither, so they come last.
     fn accept_loose(&mut self, time: u64, r: &Record) -> Result<(), Refusal>
-        requires channel { IsOnChannel self.old }
-        requires made { well_made r.now ≡ true }
+        requires { IsOnChannel self.old }
         ensures channel { IsOnChannel self.new }
         ensures result { result ≡ (settled fits_on (loose_on time r.now (on_acked r.now (on_of self.old))) (on_of self.old)).result }
         ensures items { on_of self.new ≡ (settled fits_on (loose_on time r.now (on_acked r.now (on_of self.old))) (on_of self.old)).channel }
@@ -104,8 +104,7 @@ impl OnChannel {
     /// One record that came in. Refused as of an old version it changes nothing, by its last reliable number it has applied its acks, and as
     /// a fragment beyond its group or over a limit it changes nothing. A version above the channel's is accepted, and not kept.
     pub fn accept(&mut self, forwarding: bool, time: u64, r: &Record) -> Result<(), Refusal>
-        requires channel { IsOnChannel self.old }
-        requires made { well_made r.now ≡ true }
+        requires { IsOnChannel self.old }
         ensures channel { IsOnChannel self.new }
         ensures result { result ≡ (settled fits_on (on_record forwarding time r.now (on_of self.old)) (on_of self.old)).result }
         ensures items { on_of self.new ≡ (settled fits_on (on_record forwarding time r.now (on_of self.old)) (on_of self.old)).channel }
@@ -125,8 +124,7 @@ impl OnChannel {
 
     /// One record that is forwarded out: its acks leave the ack queue, and a reliable one joins the out list.
     pub fn accept_out(&mut self, time: u64, r: &Record) -> Result<(), Refusal>
-        requires channel { IsOnChannel self.old }
-        requires made { well_made r.now ≡ true }
+        requires { IsOnChannel self.old }
         ensures channel { IsOnChannel self.new }
         ensures result { result ≡ (settled fits_on (granted (forward_on time r.now (on_of self.old))) (on_of self.old)).result }
         ensures items { on_of self.new ≡ (settled fits_on (granted (forward_on time r.now (on_of self.old))) (on_of self.old)).channel }
@@ -137,8 +135,7 @@ impl OnChannel {
 
     /// One record, by the rules of its way.
     pub fn take(&mut self, way: Way, time: u64, r: &Record) -> Result<(), Refusal>
-        requires channel { IsOnChannel self.old }
-        requires made { well_made r.now ≡ true }
+        requires { IsOnChannel self.old }
         ensures channel { IsOnChannel self.new }
         ensures result { result ≡ (settled fits_on (outcome_on way time r.now (on_of self.old)) (on_of self.old)).result }
         ensures items { on_of self.new ≡ (settled fits_on (outcome_on way time r.now (on_of self.old)) (on_of self.old)).channel }
@@ -166,8 +163,7 @@ impl OffChannel {
 
     /// A reliable record. Where there is no room to acknowledge it, a fragment beyond its group is refused as that.
     fn accept_reliable(&mut self, time: u64, r: &Record) -> Result<(), Refusal>
-        requires channel { IsOffChannel self.old }
-        requires made { well_made r.now ≡ true }
+        requires { IsOffChannel self.old }
         ensures channel { IsOffChannel self.new }
         ensures result { result ≡ (settled fits_off (loose_off time r.now (model.off_with (queued r.now (off_acked r.now (off_of self.old)).off) (off_acked r.now (off_of self.old)))) (off_of self.old)).result }
         ensures items { off_of self.new ≡ (settled fits_off (loose_off time r.now (model.off_with (queued r.now (off_acked r.now (off_of self.old)).off) (off_acked r.now (off_of self.old)))) (off_of self.old)).channel }
@@ -187,8 +183,7 @@ impl OffChannel {
 
     /// A record that is not reliable, as on-channel.
     fn accept_loose(&mut self, time: u64, r: &Record) -> Result<(), Refusal>
-        requires channel { IsOffChannel self.old }
-        requires made { well_made r.now ≡ true }
+        requires { IsOffChannel self.old }
         ensures channel { IsOffChannel self.new }
         ensures result { result ≡ (settled fits_off (loose_off time r.now (off_acked r.now (off_of self.old))) (off_of self.old)).result }
         ensures items { off_of self.new ≡ (settled fits_off (loose_off time r.now (off_acked r.now (off_of self.old))) (off_of self.old)).channel }
@@ -201,8 +196,7 @@ impl OffChannel {
     /// One record that came in. Refused for its cumulative ack it changes nothing, by its last reliable number it has applied its acks, and
     /// as a fragment beyond its group or over a limit it changes nothing.
     pub fn accept(&mut self, time: u64, r: &Record) -> Result<(), Refusal>
-        requires channel { IsOffChannel self.old }
-        requires made { well_made r.now ≡ true }
+        requires { IsOffChannel self.old }
         ensures channel { IsOffChannel self.new }
         ensures result { result ≡ (settled fits_off (off_record time r.now (off_of self.old)) (off_of self.old)).result }
         ensures items { off_of self.new ≡ (settled fits_off (off_record time r.now (off_of self.old)) (off_of self.old)).channel }
@@ -223,8 +217,7 @@ impl OffChannel {
 
     /// One record that is forwarded out, as on-channel; with a cumulative ack it is refused and changes nothing.
     pub fn accept_out(&mut self, time: u64, r: &Record) -> Result<(), Refusal>
-        requires channel { IsOffChannel self.old }
-        requires made { well_made r.now ≡ true }
+        requires { IsOffChannel self.old }
         ensures channel { IsOffChannel self.new }
         ensures result { result ≡ (settled fits_off (forward_off (is_set r.now.hascumulative) time r.now (off_of self.old)) (off_of self.old)).result }
         ensures items { off_of self.new ≡ (settled fits_off (forward_off (is_set r.now.hascumulative) time r.now (off_of self.old)) (off_of self.old)).channel }
@@ -240,8 +233,7 @@ impl OffChannel {
 
     /// One record, by the rules of its way.
     pub fn take(&mut self, way: Way, time: u64, r: &Record) -> Result<(), Refusal>
-        requires channel { IsOffChannel self.old }
-        requires made { well_made r.now ≡ true }
+        requires { IsOffChannel self.old }
         ensures channel { IsOffChannel self.new }
         ensures result { result ≡ (settled fits_off (outcome_off way time r.now (off_of self.old)) (off_of self.old)).result }
         ensures items { off_of self.new ≡ (settled fits_off (outcome_off way time r.now (off_of self.old)) (off_of self.old)).channel }

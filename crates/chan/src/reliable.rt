@@ -4,9 +4,9 @@ ghost use Rattle.std.specs.Prelude.{◌≡◌, ◌≤◌, ◌<◌, true, false, 
 ghost use Rattle.model.specs.Reorder.{reorder, arrive};
 ghost use Rattle.model.specs.Record.{with_reliable};
 ghost use Rattle.model.specs.Room.{fits_on};
-ghost use Rattle.queues.specs.Packets.{run_of, IsRun};
+ghost use Rattle.queues.specs.Packets.{IsWaiting, run_of, IsRun};
 ghost use Rattle.chan.specs.Channels.{on_of, IsOnChannel};
-ghost use Rattle.chan.specs.Arriving.{run, reliable, advanced, kept_of, within, Alone};
+ghost use Rattle.chan.specs.Arriving.{run, reliable, advanced, kept_of, within, comes_alone, Alone};
 
 use crate::{OnChannel, grouping};
 use list::Full;
@@ -34,12 +34,14 @@ fn successors(packets: &[Packet], number: u32) -> usize
 impl OnChannel {
     /// The expected packet joins the queue, and those buffered that follow it.
     fn advance(&mut self, p: Packet) -> Result<Run, Full>
-        requires { IsOnChannel self.old }
+        requires buffer { IsWaiting self.old.buffer }
+        requires queue { IsWaiting self.old.queue }
         ensures ok { IsOk result }
         ensures run { IfOk result (λ w. IsRun w) }
-        ensures channel { OnOk result (IsOnChannel self.new) }
+        ensures buffer { IsWaiting self.new.buffer }
         ensures items { IfOk result (λ w. record (reliable self.new) { queue = run_of w } ≡ advanced (reliable self.old) p) }
         ensures kept { kept_of self.new ≡ kept_of self.old }
+        ensures queue { self.new.queue ≡ self.old.queue }
     {
         let mut run = Run::new();
         run.extend(self.queue.as_slice())?;
@@ -53,14 +55,20 @@ impl OnChannel {
         Ok(run)
     }
 
-    /// The reorder rule: answers the contiguous queue that it leaves.
-    fn reorder(&mut self, p: Packet) -> Result<Run, Full>
-        requires { IsOnChannel self.old }
+    /// The reorder rule: the expected packet and those buffered that follow it join the contiguous queue, one before it is dropped, and one
+    /// past it is buffered, unless its number is there. Answers the contiguous queue that it leaves, up to 65 packets; the channel's own
+    /// queue stays, and so does all else but the expected number and the buffer, whatever the other lists are. `Full` says that the buffer
+    /// would hold more than 32 packets; the channel stays as it was.
+    pub fn reorder(&mut self, p: Packet) -> Result<Run, Full>
+        requires buffer { IsWaiting self.old.buffer }
+        requires queue { IsWaiting self.old.queue }
         ensures full { OnErr result (32 < length (reorder (reliable self.old) p).buffer) }
         ensures run { IfOk result (λ w. IsRun w) }
-        ensures channel { OnOk result (IsOnChannel self.new) }
+        ensures buffer { IsWaiting self.new.buffer }
         ensures items { IfOk result (λ w. record (reliable self.new) { queue = run_of w } ≡ reorder (reliable self.old) p) }
-        ensures kept { OnOk result (kept_of self.new ≡ kept_of self.old) }
+        ensures kept { kept_of self.new ≡ kept_of self.old }
+        ensures queue { self.new.queue ≡ self.old.queue }
+        ensures unchanged { OnErr result (self.new ≡ self.old) }
     {
         let mut run = Run::new();
         match Seq(p.number).compare(Seq(self.expected)) {
@@ -95,10 +103,10 @@ impl OnChannel {
         Ok(())
     }
 
-    /// Whether nothing waits, and this packet comes in order and has no range.
-    fn comes_alone(&self, p: Packet) -> bool
-        requires { IsOnChannel self.now }
-        ensures { result ≡ true → Alone (reliable self.now) p }
+    /// Whether nothing waits, and this packet comes in order and has no range: such a packet goes by no queue. For any channel.
+    pub fn comes_alone(&self, p: Packet) -> bool
+        ensures answer { result ≡ comes_alone self.now p }
+        ensures alone { result ≡ true → Alone (reliable self.now) p }
     {
         self.buffer.len == 0 && self.queue.len == 0 && p.ranged != 1 && p.number == self.expected
     }

@@ -41,9 +41,10 @@ fn join_out(out: &mut OutList, time: u64, first: Seq, handles: &[u32]) -> Result
 impl OffChannel {
     /// Adds the packets of a reliable send to the out list, numbered from `first` on.
     pub fn send(&mut self, time: u64, first: Seq, handles: &[u32]) -> Result<(), Full>
-        requires { IsOffChannel self.old }
+        requires { IsOutList self.old.off.out }
         ensures full { OnErr result (32 < length (off_of self.old).off.out + length handles.now) }
-        ensures channel { IsOffChannel self.new }
+        ensures list { IsOutList self.new.off.out }
+        ensures channel { IsOffChannel self.old → IsOffChannel self.new }
         ensures items { OnOk result (off_of self.new ≡ joined_off time first.0 handles.now (off_of self.old)) }
         ensures unchanged { OnErr result (self.new ≡ self.old) }
     {
@@ -78,11 +79,12 @@ impl OnChannel {
     /// Adds the packets of a reliable send to the out list, numbered from the channel's own source, which moves on; answers the first
     /// number.
     pub fn send(&mut self, time: u64, handles: &[u32]) -> Result<Seq, Full>
-        requires channel { IsOnChannel self.old }
+        requires list { IsOutList self.old.off.out }
         requires few { length handles.now ≤ 16 }
         ensures full { OnErr result (32 < length (on_of self.old).off.out + length handles.now) }
         ensures first { IfOk result (λ n. n.0 ≡ self.old.source.next) }
-        ensures channel { IsOnChannel self.new }
+        ensures list { IsOutList self.new.off.out }
+        ensures channel { IsOnChannel self.old → IsOnChannel self.new }
         ensures items { OnOk result (on_of self.new ≡ sent_on time handles.now (on_of self.old)) }
         ensures unchanged { OnErr result (self.new ≡ self.old) }
     {

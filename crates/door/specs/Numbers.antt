@@ -2,23 +2,19 @@
 use Rattle.std.specs.Prelude.{cond, List, ℕ, ◌+◌, ◌*◌, eqb, Result, Ok, Err}
 use Rattle.list.specs.Pad.{pad}
 use Rattle.packet.specs.declared.Refusal.{Refusal}
-use Rattle.packet.specs.Refusals.{number}
 use Rattle.model.specs.Calls.{Answer}
 use Rattle.packet.specs.Data.{is_set, is_flag}
 use Rattle.model.specs.State as model
 use Rattle.tab.specs.declared.Table.{Table}
 use Rattle.tab.specs.Tables.{repr}
+pub use Rattle.tab.specs.Answers.{code_in}
 use Rattle.tab.specs.Answers.{code_of, some_of, length_of, value_of}
 use Rattle.door.specs.declared.Handles.{Handles}
 use Rattle.door.specs.declared.Names.{Names}
 
--- ---- a result as numbers: 0 or the refusal's number, and the value, or a blank where the call was refused
+-- ---- a result as numbers: 0 or the refusal's number (`code_in`), and the value, or a blank where the call was refused
 
 module _ {X : Type 0} where
-  abbrev pub code_in : Result X Refusal → ℕ
-  code_in (Ok x) = 0
-  code_in (Err r) = number r
-
   abbrev pub value_or : X → Result X Refusal → X
   value_or blank (Ok x) = x
   value_or blank (Err r) = blank

@@ -8,7 +8,7 @@ ghost use Rattle.chan.specs.Channels.{IsOffData};
 
 use chan::OffData;
 use packet::{Packet, Refusal};
-use print::{Answer, Made, YesNo};
+use print::{Answer, YesNo};
 use show::Waiting;
 use std::io;
 use std::io::Write;
@@ -201,7 +201,7 @@ fn part(number: u32, range: [u32; 2], handle: u32) -> Packet {
 }
 
 /// Does a step.
-#[tactic(auto, using(crate::proofs::Fronts::front_fits))]
+#[tactic(auto, using(print::proofs::Fronts::front_fits))]
 fn act(d: &mut OffData, step: Step) -> Result<(), Refusal>
     requires { IsOffData d.old }
     ensures { IsOffData d.new }
@@ -251,7 +251,8 @@ fn write_scene<W: Write>(out: &mut W, name: &str, steps: &[Step]) -> io::Result<
         Answer(last),
         Waiting(d.groups.as_slice())
     )?;
-    writeln!(out, " bundles{}", Made(&d.bundles))
+    print::all_bundles(out, &d.bundles)?;
+    writeln!(out)
 }
 
 /// A handle is held in a group, and in a bundle not yet handed out.
@@ -270,16 +271,16 @@ fn write_tests<W: Write>(out: &mut W) -> io::Result<()> {
     let (mut d, _) = play(&[Part(10, [10, 11], 20, 5)]);
     print::test(
         out,
-        "a group updated at the latest time",
+        b"a group updated at the latest time:",
         d.groups.is_well_formed(5),
     )?;
     print::test(
         out,
-        "a group updated after the latest time",
+        b"a group updated after the latest time:",
         d.groups.is_well_formed(4),
     )?;
     d.bundles.total = 1;
-    print::test(out, "a handle of no bundle", d.bundles.is_well_formed())
+    print::test(out, b"a handle of no bundle:", d.bundles.is_well_formed())
 }
 
 fn main(rt: HostRuntime) -> io::Result<()> {

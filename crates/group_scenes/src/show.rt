@@ -1,5 +1,6 @@
 //! How groups are written.
 
+use print::After;
 use queues::Fragments;
 use std::fmt;
 
@@ -24,7 +25,13 @@ impl fmt::Display for Place {
 impl fmt::Display for Waiting<'_> {
     fn fmt<W: fmt::Write>(&self, f: &mut fmt::Formatter<W>) -> fmt::Result {
         for g in self.0 {
-            write!(f, " {},{},{}:", g.first, g.updated, g.count)?;
+            write!(
+                f,
+                " {}{}{}:",
+                g.first,
+                After(g.updated),
+                After(g.count.into())
+            )?;
             let places = g.marks.iter().zip(&g.handles).take(g.len as usize);
             f.write_joined(places.map(|(mark, handle)| Place(*mark, *handle)), ".")?;
         }

@@ -3,7 +3,7 @@
 
 ghost use Rattle.kept.specs.Kept.{KeptWellFormed};
 
-/// Every call keeps a state well formed.
+/// Every call keeps a state well formed, and no count passes its limit.
 pub fn keeps_well_formed()
     ensures { KeptWellFormed }
 {}

@@ -11,6 +11,15 @@ ghost use Rattle.list.specs.Lists.{IsList};
 #[derive(Clone, Copy, Debug, PartialEq, Eq, Drop)]
 pub struct Full;
 
+/// The items: the places in use, which are all of them where the count is beyond them. For any count and places.
+#[tactic(auto, using(std::proofs::lemmas::List::take_min))]
+pub fn used<T: Copy>(len: u32, places: &[T]) -> &[T]
+    ensures { result.now ≡ take len places.now }
+{
+    let n = (len as usize).min(places.len());
+    &places[..n]
+}
+
 /// Adds `x` at the end.
 #[tactic(auto, using(crate::proofs::Edits::pushed))]
 pub fn push<T: Copy>(len: &mut u32, places: &mut [T], blank: T, x: T) -> Result<(), Full>

@@ -3,7 +3,7 @@ use mathlib.Core.Path.{◌≡◌, refl, ap, ◌∙◌}
 use mathlib.Core.Bool.{Bool, true, false}
 use mathlib.Core.List.{List, [], ◌∷◌, ◌++◌}
 use Prim.Native.Nat.{ℕ}
-use lib.Dec.{leb, eqb}
+use lib.Dec.{eqb}
 use lib.ListN.{length, replicate}
 use borrow.Author.Tests.{eqb-true}
 use Rattle.list.specs.Pad.{all_b}
@@ -18,13 +18,10 @@ use Rattle.model.specs.Rust as rust
 use Rattle.model.specs.Calls.{next_bundle}
 use Rattle.model.specs.Port.{next_bundle_s, reply}
 use Rattle.order.specs.OnKey.{same_key, names, handed_by, handed_out, waiting}
+pub use Rattle.order.specs.Ever.{taking}
 use Rattle.order.proofs.Lift.{feed}
 use Rattle.order.proofs.Channels.{seen, seen_version}
 use Rattle.order.proofs.Calls.{call_law}
-
--- a bundle that the lent list takes
-abbrev pub taking : List ℕ → List ℕ → Bool
-taking l b = leb (length b) (length l)
 
 module _ (a i : ℕ) (k : Key) (l : List ℕ) (m : key_made k ≡ true) (n : names a i k ≡ true) where
   on : is_set k.on ≡ true

@@ -1,6 +1,8 @@
 //! What the programs print, as values to put into a format. Nothing here allocates.
 #![tactic(auto)]
 
+ghost use Rattle.queues.specs.Made.{IsBundles};
+
 use packet::Refusal;
 use queues::Bundles;
 use std::io::Write;
@@ -18,9 +20,13 @@ pub struct Answer(pub Result<(), Refusal>);
 #[derive(Clone, Copy)]
 pub struct Words<'a>(pub &'a [u32]);
 
-/// The bundles in the order in which they are handed out: each after a blank, its handles with dots between.
+/// A number after a comma.
 #[derive(Clone, Copy)]
-pub struct Made<'a>(pub &'a Bundles);
+pub struct After(pub u64);
+
+/// A bundle: its handles with dots between.
+#[derive(Clone, Copy)]
+pub struct Made<'a>(pub &'a [u32]);
 
 impl fmt::Display for YesNo {
     fn fmt<W: fmt::Write>(&self, f: &mut fmt::Formatter<W>) -> fmt::Result {
@@ -46,22 +52,35 @@ impl fmt::Display for Words<'_> {
     }
 }
 
-impl fmt::Display for Made<'_> {
+impl fmt::Display for After {
     fn fmt<W: fmt::Write>(&self, f: &mut fmt::Formatter<W>) -> fmt::Result {
-        let mut rest: &[u32] = &self.0.handles;
-        for len in self.0.lengths.iter().take(self.0.len as usize) {
-            let Some((bundle, after)) = rest.split_at_checked(*len as usize) else {
-                break;
-            };
-            f.write_str(" ")?;
-            f.write_joined(bundle.iter(), ".")?;
-            rest = after;
-        }
-        Ok(())
+        write!(f, ",{}", self.0)
     }
 }
 
-/// Writes the line of a scene that asks whether a list is well formed.
-pub fn test<W: Write>(out: &mut W, name: &str, good: bool) -> io::Result<()> {
-    writeln!(out, "{name}: well formed {}", YesNo(good))
+impl fmt::Display for Made<'_> {
+    fn fmt<W: fmt::Write>(&self, f: &mut fmt::Formatter<W>) -> fmt::Result {
+        f.write_joined(self.0.iter(), ".")
+    }
+}
+
+/// Writes the line of a scene that asks whether a list is well formed: the name, and after it the answer.
+pub fn test<W: Write>(out: &mut W, name: &[u8], good: bool) -> io::Result<()> {
+    out.write_all(name)?;
+    writeln!(out, " well formed {}", YesNo(good))
+}
+
+/// Writes the bundles in the order in which they are handed out, each after a blank, by handing out those of a copy.
+#[tactic(auto, using(crate::proofs::Fronts::front_fits))]
+pub fn all_bundles<W: Write>(out: &mut W, b: &Bundles) -> io::Result<()>
+    requires { IsBundles b.now }
+{
+    out.write_all(b" bundles")?;
+    let mut rest = *b;
+    while let Some(len) = rest.front_len() {
+        let mut list = [0; 64];
+        rest.pop_front(&mut list);
+        write!(out, " {}", Made(&list[..len]))?;
+    }
+    Ok(())
 }

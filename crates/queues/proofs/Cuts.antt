@@ -1,5 +1,5 @@
 -- Bundles as lists cut from one list of handles.
-use Rattle.std.proofs.Common.{◌≡◌, ℕ, suc, ◌+◌, ◌≤◌, ◌<◌, List, [], ◌∷◌, ◌++◌, length, take, drop, refl, arith, ap, sym, ◌∙◌, length-append, length-drop, length-take}
+use Rattle.std.proofs.Common.{◌≡◌, ◌&&◌, ltb, Bool, true, false, leb, ◌-◌, ℕ, suc, ◌+◌, ◌≤◌, ◌<◌, List, [], ◌∷◌, ◌++◌, length, take, drop, refl, arith, ap, sym, ◌∙◌, length-append, length-drop, length-take}
 use lib.Seq.{take-append-le, drop-append-le, take-add, take_all}
 use Rattle.list.specs.Find.{joined, sum}
 use Rattle.std.proofs.lemmas.List.{length-map}
@@ -7,7 +7,8 @@ use Rattle.list.specs.Lists.{IsList}
 use Rattle.list.proofs.Edits.{length_items}
 use Rattle.packet.specs.declared.Packet.{Packet}
 use Rattle.model.specs.Group.{handles}
-use Rattle.queues.specs.Made.{split_by, bundles_of, IsBundles}
+use Rattle.std.proofs.lemmas.Bool.{leb-true, leb-false, le-leb, lt-leb, le-ltb, and_parts}
+use Rattle.queues.specs.Made.{split_by, bundles_of, IsBundles, room}
 use Rattle.queues.specs.declared.bundles.Bundles.{Bundles}
 
 pub sum_more : (ns : List ℕ) (n : ℕ) → sum (ns ++ n ∷ []) ≡ sum ns + n
@@ -39,6 +40,22 @@ module _ (b : Bundles) (w : IsBundles b) where
 
   pub total_is : length (joined (bundles_of b)) ≡ b.total
   total_is = ap length (joined-split_by (take b.len b.lengths) (take b.total b.handles)) ∙ omega (arith, w.whole, length-take (sum (take b.len b.lengths)) (take b.total b.handles), length-take b.total b.handles, w.handles.size, w.handles.fits)
+
+  -- room for one more bundle
+  pub room_then : (n : ℕ) → b.len < 16 → leb n (64 - b.total) ≡ room (bundles_of b) n
+  room_then n h = rw (len_is, total_is, le-leb (suc b.len) 16 h) (at (leb (b.total + n) 64) refl)
+    where
+      at : (r : Bool) → leb (b.total + n) 64 ≡ r → leb n (64 - b.total) ≡ r
+      at true q = le-leb _ _ (omega (arith, leb-true _ _ q, w.handles.fits))
+      at false q = lt-leb _ _ (omega (arith, leb-false _ _ q, w.handles.fits))
+
+  pub room_else : (n : ℕ) → 16 ≤ b.len → ltb b.len 16 ≡ room (bundles_of b) n
+  room_else n h = rw (len_is, le-ltb b.len 16 h) refl
+
+  pub room_has : (n : ℕ) → room (bundles_of b) n ≡ true → (b.len < 16) × (b.total + n ≤ 64)
+  room_has n h =
+      let p = and_parts (leb (suc (length (bundles_of b))) 16) (leb (length (joined (bundles_of b)) + n) 64) h in
+      (omega (arith, leb-true _ _ p.0, len_is), omega (arith, leb-true _ _ p.1, total_is))
 
 module _ (b : Bundles) (n m t : ℕ) (ls hs xs : List ℕ) (w : IsBundles b) (l : IsList 16 0 n ls) (h : IsList 64 0 t hs)
     (p : take n ls ≡ take b.len b.lengths ++ m ∷ []) (q : take t hs ≡ take b.total b.handles ++ xs) (k : m ≡ length xs) where

@@ -269,6 +269,12 @@ holds_on x ms hs i e h p inv = sym (ap (λ b. b || has (holds_place x) (drop (i 
     at false b q r = refl
 
 -- of the places in use
-pub holds_first : (g : Fragments) (x : ℕ) → IsGroup g → has (holds_place x) (places (length (take g.len g.marks)) (take g.len g.marks) (take g.len g.handles)) ≡ has (holds_place x) (group_of g).places
-holds_first g x w = let n : length (take g.len g.marks) ≡ g.len = omega (arith, length-take g.len g.marks, g_32 g w, g_len_le g w) in
-    rw (n, places_taken) refl
+pub places_used : (n : ℕ) (ms hs : List ℕ) → places (length (take n ms)) (take n ms) (take n hs) ≡ places n ms hs
+unfolding places
+places_used zero ms hs = refl
+places_used (suc n) [] hs = refl
+places_used (suc n) (m ∷ ms) [] = refl
+places_used (suc n) (m ∷ ms) (h ∷ hs) = ap (λ (r : List (Option ℕ)). place_of m h ∷ r) (places_used n ms hs)
+
+pub holds_first : (g : Fragments) (x : ℕ) → has (holds_place x) (places (length (take g.len g.marks)) (take g.len g.marks) (take g.len g.handles)) ≡ has (holds_place x) (group_of g).places
+holds_first g x = rw (places_used g.len g.marks g.handles) refl

@@ -1,5 +1,5 @@
 -- What a list of bundles stands for, and when it is in its form.
-use Rattle.std.specs.Prelude.{◌≡◌, List, [], ◌∷◌, map, ℕ, length, take, drop, replicate}
+use Rattle.std.specs.Prelude.{◌≡◌, Bool, ◌&&◌, List, [], ◌∷◌, map, ℕ, suc, ◌+◌, leb, length, take, drop, replicate}
 use Rattle.std.specs.declared.option.Option.{Option}
 use Rattle.std.specs.declared.option.Option.TheVariants.{None, Some}
 use Rattle.list.specs.Pad.{pad}
@@ -46,3 +46,7 @@ repr bs =
 
 abbrev pub no_bundles : Bundles
 no_bundles = record { len = 0; total = 0; lengths = replicate 16 0; handles = replicate 64 0 }
+
+-- whether one more bundle of n handles has room
+abbrev pub room : List (List ℕ) → ℕ → Bool
+room bs n = leb (suc (length bs)) 16 && leb (length (joined bs) + n) 64

@@ -5,7 +5,7 @@ ghost use Rattle.list.specs.Lists.{IsList};
 ghost use Rattle.list.specs.Find.{has, joined, written};
 ghost use Rattle.model.specs.Group.{handles};
 ghost use Rattle.model.specs.Rust.{is_handle, holds_bundle};
-ghost use Rattle.queues.specs.Made.{bundles_of, IsBundles, front, front_len};
+ghost use Rattle.queues.specs.Made.{bundles_of, IsBundles, front, front_len, room};
 
 use list::Full;
 use packet::Packet;
@@ -57,13 +57,25 @@ impl Bundles {
         }
     }
 
-    /// Adds a bundle of these packets at the end. After an `Err` it is in no state to go on with: work on a copy.
+    /// Whether one more bundle of `n` handles has room.
+    pub fn has_room(&self, n: usize) -> bool
+        requires { IsBundles self.now }
+        ensures { result ≡ room (bundles_of self.now) n }
+    {
+        self.len < 16 && n <= 64 - self.total as usize
+    }
+
+    /// Adds a bundle of these packets at the end.
     pub fn push(&mut self, packets: &[Packet]) -> Result<(), Full>
         requires { IsBundles self.old }
         ensures full { OnErr result (16 ≤ length (bundles_of self.old) ⊎ 64 < length (joined (bundles_of self.old)) + length packets.now) }
-        ensures bundles { OnOk result (IsBundles self.new) }
+        ensures bundles { IsBundles self.new }
         ensures items { OnOk result (bundles_of self.new ≡ bundles_of self.old ++ handles packets.now ∷ []) }
+        ensures unchanged { OnErr result (self.new ≡ self.old) }
     {
+        if !self.has_room(packets.len()) {
+            return Err(Full);
+        }
         add_handles(&mut self.total, &mut self.handles, packets)?;
         list::push(&mut self.len, &mut self.lengths, 0, packets.len() as u32)?;
         Ok(())
@@ -108,6 +120,19 @@ impl Bundles {
         Some(self.lengths[0] as usize)
     }
 
+    /// Writes the handles of the bundle that is handed out next from the front of `lent`; it stays. Where none waits, nothing is written.
+    pub fn write_front(&self, lent: &mut [u32])
+        requires bundles { IsBundles self.now }
+        requires room { length (front (bundles_of self.now)) ≤ length lent.old }
+        ensures { lent.new ≡ written (front (bundles_of self.now)) lent.old }
+    {
+        if self.len == 0 {
+            return;
+        }
+        let n = self.lengths[0] as usize;
+        lent[..n].copy_from_slice(&self.handles[..n]);
+    }
+
     /// Hands out the next bundle: its handles are written from the front of `lent`, and it is gone. Where none waits, nothing is done.
     pub fn pop_front(&mut self, lent: &mut [u32])
         requires bundles { IsBundles self.old }
@@ -120,7 +145,7 @@ impl Bundles {
             return;
         }
         let n = self.lengths[0] as usize;
-        lent[..n].copy_from_slice(&self.handles[..n]);
+        self.write_front(lent);
         list::take_front(&mut self.total, &mut self.handles, 0, n);
         list::take_front(&mut self.len, &mut self.lengths, 0, 1);
     }

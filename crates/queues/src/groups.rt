@@ -116,13 +116,17 @@ impl Fragments {
         &self.handles[..self.len as usize]
     }
 
-    /// Whether one of its fragments has that handle.
+    /// Whether one of its fragments has that handle. For a group of any counts and marks.
     pub fn holds(&self, handle: u32) -> bool
-        requires { IsGroup self.now }
         ensures { result ≡ holds_group handle (group_of self.now) }
     {
-        let n = self.len as usize;
-        holds(&self.marks[..n], &self.handles[..n], handle)
+        let marks = &self.marks;
+        let handles = &self.handles;
+        holds(
+            list::used(self.len, marks),
+            list::used(self.len, handles),
+            handle,
+        )
     }
 }
 
@@ -148,7 +152,6 @@ fn position(groups: &[Fragments], first: u32) -> Option<usize>
 
 /// Whether one of these has a fragment with that handle.
 fn one_holds(groups: &[Fragments], handle: u32) -> bool
-    requires { All IsGroup groups.now }
     ensures { result ≡ has (holds_group handle) (map group_of groups.now) }
 {
     for g in groups {
@@ -173,11 +176,11 @@ impl Groups {
         }
     }
 
+    /// The groups, of any count.
     pub fn as_slice(&self) -> &[Fragments]
-        requires { IsGroups self.now }
         ensures { result.now ≡ take self.now.len self.now.groups }
     {
-        &self.groups[..self.len as usize]
+        list::used(self.len, &self.groups)
     }
 
     /// The group that stands at `i`.
@@ -209,6 +212,17 @@ impl Groups {
         self.groups[g].store(i, handle, time);
     }
 
+    /// Puts a group in the place of the one that stands at `i`.
+    pub fn put(&mut self, i: usize, g: Fragments)
+        requires groups { IsGroups self.old }
+        requires there { i < length (groups_of self.old) }
+        requires group { IsGroup g }
+        ensures groups { IsGroups self.new }
+        ensures items { groups_of self.new ≡ set (groups_of self.old) i (group_of g) }
+    {
+        self.groups[i] = g;
+    }
+
     /// Adds a group after the last.
     pub fn push(&mut self, g: Fragments) -> Result<(), Full>
         requires groups { IsGroups self.old }
@@ -232,9 +246,8 @@ impl Groups {
         list::remove(&mut self.len, &mut self.groups, Fragments::none(), i);
     }
 
-    /// Whether one of its groups has a fragment with that handle.
+    /// Whether one of its groups has a fragment with that handle. For groups of any counts and marks.
     pub fn holds(&self, handle: u32) -> bool
-        requires { IsGroups self.now }
         ensures { result ≡ has (holds_group handle) (groups_of self.now) }
     {
         one_holds(self.as_slice(), handle)

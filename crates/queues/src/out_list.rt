@@ -1,6 +1,6 @@
 //! The out list: reliable packets sent and not yet acknowledged (Rust: `out_reliable_packets`).
 
-ghost use Rattle.std.specs.Prelude.{◌≡◌, ◌+◌, ◌-◌, ◌^◌, ◌<◌, ◌≤◌, ◌∷◌, ◌++◌, [], map, length, drop, OnOk, OnErr, position};
+ghost use Rattle.std.specs.Prelude.{◌≡◌, ◌+◌, ◌-◌, ◌^◌, ◌<◌, ◌≤◌, ◌∷◌, ◌++◌, [], map, length, drop, leb, OnOk, OnErr, position};
 ghost use Rattle.list.specs.Find.{has, keep_by, written_at};
 ghost use Rattle.list.specs.Pad.{all_b};
 ghost use Rattle.packet.specs.Data.{no_entry};
@@ -67,7 +67,7 @@ impl Clock {
     }
 
     /// The entry after a resend: last sent now, if it is due.
-    fn mark(&self, e: &OutEntry) -> OutEntry
+    pub fn mark(&self, e: &OutEntry) -> OutEntry
         ensures { result ≡ Rust.mark self.now.time self.now.timeout e.now }
     {
         let mut marked = *e;
@@ -80,7 +80,7 @@ impl Clock {
 
 /// Where an entry of that number goes in these, searched from the end; nowhere if the number is there.
 #[tactic(auto, using(crate::proofs::OutSearch::search_step, crate::proofs::OutSearch::search_none))]
-fn place_of(entries: &[OutEntry], number: u32) -> Option<usize>
+pub fn place_of(entries: &[OutEntry], number: u32) -> Option<usize>
     ensures { result ≡ search entry_number no_entry number entries.now (length entries.now) }
 {
     for i in (0..entries.len()).rev() {
@@ -154,11 +154,23 @@ impl OutList {
         }
     }
 
+    /// The entries, of any count.
     pub fn as_slice(&self) -> &[OutEntry]
-        requires { IsOutList self.now }
         ensures { result.now ≡ entries self.now }
     {
-        &self.entries[..self.len as usize]
+        list::used(self.len, &self.entries)
+    }
+
+    /// Whether there is room for an entry in its place by its number: none is needed where that number is there.
+    #[tactic(auto, using(crate::proofs::OutSearch::none_room, crate::proofs::OutSearch::some_room))]
+    pub fn has_room_for(&self, e: OutEntry) -> bool
+        requires { IsOutList self.now }
+        ensures { result ≡ leb (length (insert_out e (entries self.now))) 32 }
+    {
+        match place_of(self.as_slice(), e.number) {
+            None => true,
+            Some(_) => self.len < 32,
+        }
     }
 
     /// Adds an entry at the end.
@@ -250,9 +262,8 @@ impl OutList {
         count_due(self.as_slice(), clock)
     }
 
-    /// Whether a resend leaves the list as it is and lists nothing of it.
+    /// Whether a resend leaves the list as it is and lists nothing of it. For a list of any count.
     pub fn is_quiet(&self, clock: Clock) -> bool
-        requires { IsOutList self.now }
         ensures { result ≡ all_b (λ e. calm clock.time clock.timeout clock.give_up e) (entries self.now) }
     {
         self.as_slice().iter().all(|e| clock.stays(e))

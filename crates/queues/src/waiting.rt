@@ -30,7 +30,7 @@ pub struct Run {
 
 /// Where a packet of that number goes in these, searched from the end.
 #[tactic(auto, using(crate::proofs::Search::search_step, crate::proofs::Search::search_none))]
-fn place_of(packets: &[Packet], number: u32) -> Option<usize>
+pub fn place_of(packets: &[Packet], number: u32) -> Option<usize>
     ensures { result ≡ search packet_number no_packet number packets.now (length packets.now) }
 {
     for i in (0..packets.len()).rev() {
@@ -68,11 +68,11 @@ impl Waiting {
         Ok(w)
     }
 
+    /// The packets, of any count.
     pub fn as_slice(&self) -> &[Packet]
-        requires { IsWaiting self.now }
         ensures { result.now ≡ packets_of self.now }
     {
-        &self.packets[..self.len as usize]
+        list::used(self.len, &self.packets)
     }
 
     /// Puts a packet in its place among the buffered, unless its number is there.

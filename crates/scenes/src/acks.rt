@@ -109,11 +109,17 @@ fn write_scene<W: Write>(out: &mut W, name: &str, steps: &[Step]) -> io::Result<
 fn write_tests<W: Write>(out: &mut W) -> io::Result<()> {
     let mut q = AckQueue::new();
     act(&mut q, Receive(&[4, 7]));
-    print::test(out, "acks 4 7", q.is_well_formed())?;
-    act(&mut q, Receive(&[268435456]));
-    print::test(out, "an ack that is no legal number", q.is_well_formed())?;
-    q.len = 65;
-    print::test(out, "an ack queue of 65", q.is_well_formed())
+    print::test(out, b"acks 4 7:", q.is_well_formed())?;
+    let mut large = AckQueue::new();
+    act(&mut large, Receive(&[268435456]));
+    print::test(
+        out,
+        b"an ack that is no legal number:",
+        large.is_well_formed(),
+    )?;
+    let mut long = AckQueue::new();
+    long.len = 65;
+    print::test(out, b"an ack queue of 65:", long.is_well_formed())
 }
 
 pub fn write_all<W: Write>(out: &mut W) -> io::Result<()> {

@@ -5,7 +5,7 @@ ghost use Rattle.queues.specs.Out.{IsOutList};
 
 use list::Full;
 use packet::OutEntry;
-use print::YesNo;
+use print::{After, YesNo};
 use queues::OutList;
 use queues::out_list::Clock;
 use std::io::Write;
@@ -273,13 +273,13 @@ impl fmt::Display for NumbersOf<'_> {
 impl fmt::Display for Whole<'_> {
     fn fmt<W: fmt::Write>(&self, f: &mut fmt::Formatter<W>) -> fmt::Result {
         for e in self.0 {
-            write!(f, " {},", e.number)?;
+            write!(f, " {}", e.number)?;
             if e.held == 1 {
-                write!(f, "{}", e.handle)?;
+                write!(f, "{}", After(e.handle.into()))?;
             } else {
-                f.write_str("-")?;
+                f.write_str(",-")?;
             }
-            write!(f, ",{},{}", e.time, e.sent)?;
+            write!(f, "{}{}", After(e.time), After(e.sent))?;
         }
         Ok(())
     }
@@ -337,17 +337,17 @@ fn write_tests<W: Write>(out: &mut W) -> io::Result<()> {
     let _ = act(&mut o, SENT);
     print::test(
         out,
-        "a sent packet at the latest time",
+        b"a sent packet at the latest time:",
         o.is_well_formed(10),
     )?;
     print::test(
         out,
-        "a sent packet after the latest time",
+        b"a sent packet after the latest time:",
         o.is_well_formed(9),
     )?;
     let mut stale = OutList::new();
     stale.entries[0] = forwarded(1, 0);
-    print::test(out, "an entry past the count", stale.is_well_formed(10))
+    print::test(out, b"an entry past the count:", stale.is_well_formed(10))
 }
 
 pub fn write_all<W: Write>(out: &mut W) -> io::Result<()> {

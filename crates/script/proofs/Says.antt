@@ -1,23 +1,21 @@
 -- What the exits of `deliver`, `pop` and `step` owe: the text of an answer, from what the call's result says.
-use Rattle.std.proofs.Common.{◌≡◌, ℕ, ◌≤◌, Bool, true, false, List, [], ◌∷◌, ◌++◌, length, take, drop, refl, sym, ap, subst, arith, ◌∙◌}
+use Rattle.std.proofs.Common.{◌≡◌, ℕ, ◌≤◌, Bool, true, false, List, [], ◌∷◌, length, take, drop, refl, sym, ap, subst, arith, ◌∙◌}
 use borrow.Author.Tests.{leb-true}
 use lib.Dec.{leb}
 use lib.Seq.{take-append_seam}
 use Rattle.std.specs.Prelude.{Result, Ok, Err}
 use Rattle.std.specs.declared.option.Option.{Option}
 use Rattle.std.specs.declared.option.Option.TheVariants.{None, Some}
-use Rattle.list.proofs.Pad.{never}
 use Rattle.packet.specs.declared.Record.{Record}
 use Rattle.packet.specs.declared.Key.{Key}
 use Rattle.packet.specs.declared.View.{View}
 use Rattle.packet.specs.declared.Refusal.{Refusal}
 use Rattle.packet.specs.Refusals.{number}
-use Rattle.packet.specs.Data.{key_made}
 use Rattle.model.specs.State as model
-use Rattle.model.specs.Rust.{has_key, data_of}
+use Rattle.model.specs.Rust.{data_of}
 use Rattle.model.specs.Calls as call
 use Rattle.model.specs.Calls.{Call, Answer, refused, delivered, undelivered, found, no_bundle, bundle, prepared, done, resends, held, prefix_is, lent}
-use Rattle.model.specs.Port.{Reply, Result as Outcome, takes, refuses, reply, answer_one, accept_s, deliver, delivery_answer, last_result, count, play, next_bundle_s, next_of, next, hand_out}
+use Rattle.model.specs.Port.{Result as Outcome, takes, refuses, reply, answer_one, accept_s, deliver, delivery_answer, last_result, count, play, next_bundle_s, next_of, next, hand_out}
 use Rattle.tab.specs.declared.Table.{Table}
 use Rattle.tab.specs.declared.delivery.Delivery.{Delivery}
 use Rattle.tab.specs.Tables.{state_of}
@@ -27,9 +25,8 @@ use Rattle.writing.specs.Answers.{ok_line, no_line, none_line, bundle_line}
 use Rattle.writing.specs.Wrote.{Wrote}
 use Rattle.writing.proofs.Places.{retold}
 use Rattle.reading.specs.declared.Command.{Command}
-use Rattle.reading.specs.declared.Command.TheVariants.{In, Pig, Pop}
+use Rattle.reading.specs.declared.Command.TheVariants.{In, Pop}
 use Rattle.reading.specs.declared.Bad.{Bad}
-use Rattle.reading.specs.declared.Bad.TheVariants.{Line, Arrival}
 use Rattle.reading.specs.Grammar.{line_of}
 use Rattle.writing.specs.Answers.{bad_line}
 use Rattle.writing.proofs.Places.{nothing}
@@ -126,16 +123,16 @@ said_pop k l t = answers-have (PopText l) (call.next_bundle k l) (refused-text k
 
 -- ---- the exits
 
-module _ (s : Plain) (time a : ℕ) (r : Record) (rs hs : List Record) (u : Table) (d : Delivery) (x : Result View Refusal) (old new : List ℕ) (at next : ℕ) where
+module _ (s : Plain) (time a : ℕ) (r : Record) (rs : List Record) (u : Table) (left : Plain) (d : Delivery) (x : Result View Refusal) (old new : List ℕ) (at next : ℕ) where
   pub delivered_says : rs ≡ more s.held r → u ≡ (called (call.accept time a rs) s.table).table → d ≡ delivery_of (called (call.accept time a rs) s.table).answer
-      → hs ≡ [] → x ≡ d.last → Wrote 64 old new at next (last_text x) → Says (by_kind (Ok (In time a r)) s) old new at next (plain u hs)
+      → left ≡ plain u [] → x ≡ d.last → Wrote 64 old new at next (last_text x) → Says (by_kind (Ok (In time a r)) s) old new at next left
   delivered_says kept table answer none is w =
       let o = λ (l : List Record). called (call.accept time a l) s.table in
       let t : u ≡ (o (more s.held r)).table = table ∙ ap (λ (l : List Record). (o l).table) kept in
       let text : last_text x ≡ answer_text (o (more s.held r)).answer =
       ap last_text (is ∙ ap (λ (y : Delivery). y.last) answer) ∙ said_in time a rs s.table ∙ ap (λ (l : List Record). answer_text (o l).answer) kept in
       record {
-        state = λ i. plain (t i) (none i);
+        state = none ∙ ap (λ (v : Table). plain v []) t;
         wrote = subst (λ (l : List ℕ). Wrote 800 old new at next l) text (wider old new (last_text x) at next w);
       }
 

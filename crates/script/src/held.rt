@@ -5,6 +5,9 @@ ghost use Rattle.script.specs.Holding.{held_of, IsHeld, more};
 
 use packet::Record;
 
+/// So many records have a place.
+const PLACES: u32 = 9;
+
 /// Up to nine records, oldest first. A delivery has at most eight, so that nine are too many already, and more change nothing.
 #[derive(Clone, Copy)]
 pub struct Held {
@@ -23,20 +26,22 @@ impl Held {
         }
     }
 
+    /// The held records. Past a count of nine they are the records of all nine places.
     pub fn as_slice(&self) -> &[Record]
-        requires { IsHeld self.now }
         ensures { result.now ≡ held_of self.now }
     {
-        &self.records[..self.count as usize]
+        list::used(self.count, &self.records)
     }
 
     /// One more record; where nine are held it changes nothing.
     #[tactic(auto, using(crate::proofs::More::more_room, crate::proofs::More::more_full))]
     pub fn push(&mut self, r: Record)
-        requires { IsHeld self.old }
-        ensures held { IsHeld self.new }
+        ensures held { IsHeld self.old → IsHeld self.new }
         ensures items { held_of self.new ≡ more (held_of self.old) r }
     {
-        let _ = list::push(&mut self.count, &mut self.records, Record::none(), r);
+        if self.count < PLACES {
+            self.records[self.count as usize] = r;
+            self.count += 1;
+        }
     }
 }

@@ -1,9 +1,9 @@
 //! The driver: a script of lines, each a command or nothing that can be read, and the answers to them in order.
 #![tactic(auto)]
 
-ghost use Rattle.std.specs.Prelude.{◌≡◌, ◌+◌, ◌≤◌, ◌<◌, length, drop, Ok};
+ghost use Rattle.std.specs.Prelude.{◌≡◌, [], ◌+◌, ◌≤◌, ◌<◌, length, drop, Ok};
 ghost use Rattle.reading.specs.declared.Command.TheVariants.{In, Pop};
-ghost use Rattle.script.specs.Plain.{start};
+ghost use Rattle.script.specs.Plain.{start, plain};
 ghost use Rattle.script.specs.Holding.{IsHeld, plain_of};
 ghost use Rattle.script.specs.Lines.{by_kind, step_of, Says};
 ghost use Rattle.script.specs.Input as Input;
@@ -45,28 +45,34 @@ impl Relay {
         }
     }
 
-    /// `in`: the held records and its own are one delivery, and used up.
-    fn deliver(&mut self, time: u64, address: u32, r: Record, page: &mut Page<'_>)
-        requires held { IsHeld self.old.held }
-        requires room { page.old.len + 800 ≤ length page.old.buf.now }
+    /// The held records are used up, and the table stays as it was.
+    pub fn use_up(&mut self)
+        ensures held { IsHeld self.new.held }
+        ensures used { plain_of self.new ≡ plain self.old.table [] }
+    {
+        self.held = Held::new();
+    }
+
+    /// `in`: the held records and its own are one delivery, and used up. Its answer goes to the page.
+    pub fn deliver(&mut self, time: u64, address: u32, r: Record, page: &mut Page<'_>)
+        requires { page.old.len + 800 ≤ length page.old.buf.now }
         ensures held { IsHeld self.new.held }
         ensures same { page.new.buf.ghost_name ≡ page.old.buf.ghost_name }
         ensures says { Says (by_kind (Ok (In time address r)) (plain_of self.old)) page.old.buf.now page.new.buf.now page.old.len page.new.len (plain_of self.new) }
     {
         self.held.push(r);
         let delivery = self.table.accept(time, address, self.held.as_slice());
-        self.held = Held::new();
+        self.use_up();
         match delivery.last {
             Ok(view) => page.write_ok(view),
             Err(refusal) => page.write_no(refusal.code()),
         }
     }
 
-    /// `pop`: 64 places always suffice.
-    fn pop(&mut self, key: &Key, page: &mut Page<'_>)
-        requires held { IsHeld self.old.held }
-        requires room { page.old.len + 800 ≤ length page.old.buf.now }
-        ensures held { IsHeld self.new.held }
+    /// `pop`: 64 places always suffice. Its answer goes to the page.
+    pub fn pop(&mut self, key: &Key, page: &mut Page<'_>)
+        requires { page.old.len + 800 ≤ length page.old.buf.now }
+        ensures held { IsHeld self.old.held → IsHeld self.new.held }
         ensures same { page.new.buf.ghost_name ≡ page.old.buf.ghost_name }
         ensures says { Says (by_kind (Ok (Pop key.now)) (plain_of self.old)) page.old.buf.now page.new.buf.now page.old.len page.new.len (plain_of self.new) }
     {
@@ -80,9 +86,8 @@ impl Relay {
 
     /// One line, without its line feed: its answer goes to the page.
     pub fn step(&mut self, line: &[u8], page: &mut Page<'_>)
-        requires held { IsHeld self.old.held }
-        requires room { page.old.len + 800 ≤ length page.old.buf.now }
-        ensures held { IsHeld self.new.held }
+        requires { page.old.len + 800 ≤ length page.old.buf.now }
+        ensures held { IsHeld self.old.held → IsHeld self.new.held }
         ensures same { page.new.buf.ghost_name ≡ page.old.buf.ghost_name }
         ensures says { Says (step_of (plain_of self.old) line.now) page.old.buf.now page.new.buf.now page.old.len page.new.len (plain_of self.new) }
     {
@@ -92,7 +97,7 @@ impl Relay {
             Ok(Command::Pop(key)) => self.pop(&key, page),
             Err(Bad::Line) => page.write_bad(),
             Err(Bad::Arrival) => {
-                self.held = Held::new();
+                self.use_up();
                 page.write_bad();
             }
         }
@@ -100,9 +105,8 @@ impl Relay {
 
     /// The line that begins where `r` stands. A last line without its line feed is `bad`.
     fn turn(&mut self, r: Ran, input: &[u8], out: &mut [u8]) -> Ran
-        requires held { IsHeld self.old.held }
-        requires room { (r.at < length input.now) × (r.len + 800 ≤ length out.old) }
-        ensures held { IsHeld self.new.held }
+        requires { (r.at < length input.now) × (r.len + 800 ≤ length out.old) }
+        ensures held { IsHeld self.old.held → IsHeld self.new.held }
         ensures turned { Input.Turned (Input.going (plain_of self.old) r) input.now out.old out.new (Input.going (plain_of self.new) result) }
     {
         let at = r.at;
@@ -124,8 +128,7 @@ impl Relay {
     /// Answers lines of the input from `from` on, in order, until the end or until another answer might not fit into the buffer. Of an
     /// input 60,000 bytes are read.
     pub fn run(&mut self, input: &[u8], from: usize, out: &mut [u8]) -> Ran
-        requires { IsHeld self.old.held }
-        ensures held { IsHeld self.new.held }
+        ensures held { IsHeld self.old.held → IsHeld self.new.held }
         ensures told { Input.Told (Input.part_from (length out.old) (plain_of self.old) (drop from (Input.read input.now))) from out.old out.new (Input.going (plain_of self.new) result) }
     {
         let n = cut(input.len());

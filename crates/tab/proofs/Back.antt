@@ -10,8 +10,8 @@ use Rattle.list.proofs.Pad.{take-pad, and_left, and_right}
 use Rattle.queues.proofs.Back.{padded}
 use Rattle.packet.specs.Data.{is_set}
 use Rattle.model.specs.State as model
-use Rattle.model.specs.Room.{fits_off, fits_on}
-use Rattle.model.specs.Wellformed.{well_formed}
+use Rattle.model.specs.Room.{fits_off, fits_on, fits}
+use Rattle.model.specs.Wellformed.{distinct, good, well_formed}
 use Rattle.model.proofs.Wellformed.{well_facts}
 use Rattle.chan.specs.Channels.{off_of, IsOffChannel, repr_off, no_off_channel, on_of, IsOnChannel, repr_on, no_on_channel}
 use Rattle.chan.proofs.Back.{off-back, off-form, on-back, on-form}
@@ -105,3 +105,8 @@ module _ (s : model.State) (w : well_formed s ≡ true) where
   well-form =
       let f = (well_facts s w).fits in
       record { form = table-form s f.offs f.ons f.each_off f.each_on; meets = ap well_formed well-back ∙ w }
+
+-- a new table
+pub new-wf : (f : Bool) → IsWellFormed (repr (model.new f))
+unfolding well_formed fits good all_b distinct
+new-wf f = well-form (model.new f) refl

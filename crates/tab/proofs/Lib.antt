@@ -16,6 +16,7 @@ pub mod Found
 pub mod Sending
 pub mod Names
 pub mod Held
+pub mod Fitting
 pub mod Doors
 pub mod SendPlace
 pub mod Listed

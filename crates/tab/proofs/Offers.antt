@@ -12,6 +12,10 @@ use Rattle.model.specs.Calls as Calls
 use Rattle.model.specs.Calls.{refused, bundle}
 use Rattle.model.specs.Port as Port
 use Rattle.model.specs.Port.{Reply, untimed, refuse, next_of, next, next_bundle_s, reply}
+use Rattle.queues.specs.declared.bundles.Bundles.{Bundles}
+use Rattle.queues.specs.Made.{bundles_of, IsBundles}
+use Rattle.chan.specs.declared.OffData.{OffData}
+use Rattle.chan.specs.Channels as chan
 use Rattle.tab.specs.Calls.{answer_of, bundle_in}
 use Rattle.tab.specs.Offers.{offered, offered_if, left_after, left_if}
 use Rattle.tab.proofs.Named.{key_kept}
@@ -63,6 +67,17 @@ module _ (bs : List (List ℕ)) (o : Option ℕ) (n m : ℕ) (e : o ≡ front_le
 pub none_answer : (bs : List (List ℕ)) (m : ℕ) → bs ≡ [] → Ok None ≡ answer_of bundle_in (offered bs m)
 unfolding answer_of
 none_answer bs m e = rw e refl
+
+-- ---- the lists of a channel, with other bundles
+
+pub bundles_put : (d : OffData) (b : Bundles) → chan.IsOffData d → IsBundles b → chan.IsOffData (record d { bundles = b })
+bundles_put d b h good = record { out = h.out; acks = h.acks; groups = h.groups; bundles = good }
+
+pub bundles_left : (d : OffData) (b : Bundles) (m : model.OffData) (n : ℕ) → chan.data_of d ≡ m → bundles_of b ≡ left_after (bundles_of d.bundles) n
+    → chan.data_of (record d { bundles = b }) ≡ model.with_bundles (left_after m.bundles n) m
+bundles_left d b m n same left =
+    ap (λ (bs : List (List ℕ)). model.with_bundles bs (chan.data_of d)) left
+    ∙ ap (λ (x : model.OffData). model.with_bundles (left_after x.bundles n) x) same
 
 -- ---- the model's reply: by the tests 2 and 13, or by the bundles that wait
 

@@ -1,10 +1,17 @@
 -- The numbers of an answer: 01's refusal number, 0 where the call is granted, and the values, zero where the answer has none.
-use Rattle.std.specs.Prelude.{cond, ℕ, length}
+use Rattle.std.specs.Prelude.{cond, ℕ, length, Result, Ok, Err}
 use Rattle.packet.specs.declared.View.{View}
 use Rattle.packet.specs.declared.Prepared.{Prepared}
+use Rattle.packet.specs.declared.Refusal.{Refusal}
 pub use Rattle.packet.specs.Data.{no_view}
 use Rattle.model.specs.Refusals.{number}
 use Rattle.model.specs.Calls.{Answer, refused, delivered, undelivered, found, no_bundle, bundle, prepared, done, resends, held, prefix_is}
+
+-- a result's number: 0, or the refusal's
+module _ {X : Type 0} where
+  abbrev pub code_in : Result X Refusal → ℕ
+  code_in (Ok x) = 0
+  code_in (Err r) = number r
 
 abbrev pub no_prepared : Prepared
 no_prepared = record { allocated = 0; first = 0; on = 0; expected = 0; index = 0; version = 0; offset = 0 }

@@ -12,6 +12,7 @@ ghost use Rattle.chan.specs.Channels.{off_of, IsOffChannel, on_of, IsOnChannel};
 ghost use Rattle.tab.specs.Tables.{IsTable, state_of};
 ghost use Rattle.tab.specs.Keyed.{key_position, key_count, off_key};
 ghost use Rattle.tab.specs.Found.{made_off, made_on};
+ghost use Rattle.tab.specs.Answers.{code_in, code_of};
 ghost use Rattle.tab.specs.Calls.{called, answer_of, view_in};
 
 use crate::Table;
@@ -44,27 +45,24 @@ fn first_version(key: &Key) -> u32
 }
 
 impl Table {
-    /// Where the off-channel of that address stands.
+    /// Where the off-channel of that address stands, of any table.
     pub fn off_position(&self, address: u32) -> Option<usize>
-        requires { IsTable self.now }
         ensures first { result ≡ position (model.is_off address) (state_of self.now).protocol.offs }
         ensures within { IfSome result (λ i. i < self.now.offcount) }
     {
-        off_position(&self.offs[..self.offcount as usize], address)
+        off_position(list::used(self.offcount, &self.offs), address)
     }
 
-    /// Where the on-channel of that address and index stands.
+    /// Where the on-channel of that address and index stands, of any table.
     pub fn on_position(&self, address: u32, index: u32) -> Option<usize>
-        requires { IsTable self.now }
         ensures first { result ≡ position (model.is_on address index) (state_of self.now).protocol.ons }
         ensures within { IfSome result (λ i. i < self.now.oncount) }
     {
-        on_position(&self.ons[..self.oncount as usize], address, index)
+        on_position(list::used(self.oncount, &self.ons), address, index)
     }
 
     /// Where the channel that the key names stands among its kind.
     pub(crate) fn position(&self, key: &Key) -> Option<usize>
-        requires { IsTable self.now }
         ensures first { result ≡ key_position key.now (state_of self.now).protocol }
         ensures within { IfSome result (λ i. i < key_count key.now self.now) }
     {
@@ -162,6 +160,7 @@ impl Table {
     pub fn channel(&mut self, key: &Key) -> Result<View, Refusal>
         ensures table { self.new ≡ (called (Calls.channel key.now) self.old).table }
         ensures answer { result ≡ answer_of view_in (called (Calls.channel key.now) self.old).answer }
+        ensures code { code_in result ≡ code_of (called (Calls.channel key.now) self.old).answer }
     {
         if !self.is_well_formed() {
             return Err(Refusal::NotWellFormed);
@@ -173,6 +172,7 @@ impl Table {
     pub fn off_channel(&mut self, address: u32) -> Result<View, Refusal>
         ensures table { self.new ≡ (called (Calls.channel (off_key address)) self.old).table }
         ensures answer { result ≡ answer_of view_in (called (Calls.channel (off_key address)) self.old).answer }
+        ensures code { code_in result ≡ code_of (called (Calls.channel (off_key address)) self.old).answer }
     {
         let key = Key {
             address,

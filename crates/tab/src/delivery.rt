@@ -4,6 +4,7 @@ ghost use Rattle.std.specs.Prelude.{◌≡◌, ◌<◌, ◌≤◌, Err, length};
 ghost use Rattle.model.specs.Calls as call;
 ghost use Rattle.model.specs.Port as port;
 ghost use Rattle.tab.specs.Tables.{IsTable, state_of};
+ghost use Rattle.tab.specs.Answers.{code_in, code_of};
 ghost use Rattle.tab.specs.Calls.{called, delivery_of};
 ghost use Rattle.tab.specs.Played as Spec;
 
@@ -40,8 +41,8 @@ impl Delivery {
     }
 
     /// After one more record: a refusal of an earlier one is in the count alone.
-    fn then(self, last: Result<View, Refusal>) -> Delivery
-        requires { self.count < 8 }
+    pub fn then(self, last: Result<View, Refusal>) -> Delivery
+        requires { self.count ≤ 8 }
         ensures { result ≡ Spec.next_of self last }
     {
         match last {
@@ -111,6 +112,7 @@ impl Table {
     pub fn accept(&mut self, time: u64, address: u32, records: &[Record]) -> Delivery
         ensures table { self.new ≡ (called (call.accept time address records.now) self.old).table }
         ensures answer { result ≡ delivery_of (called (call.accept time address records.now) self.old).answer }
+        ensures code { code_in result.last ≡ code_of (called (call.accept time address records.now) self.old).answer }
     {
         if !self.is_well_formed() {
             return Delivery::refused(Refusal::NotWellFormed);

@@ -5,6 +5,7 @@ ghost use Rattle.packet.specs.Data.{well_made};
 ghost use Rattle.model.specs.Calls as call;
 ghost use Rattle.model.specs.Port as port;
 ghost use Rattle.tab.specs.Tables.{IsTable, state_of};
+ghost use Rattle.tab.specs.Answers.{code_in, code_of};
 ghost use Rattle.tab.specs.Calls.{called, answer_of, view_in};
 ghost use Rattle.tab.specs.Played as Spec;
 
@@ -34,6 +35,7 @@ impl Table {
     pub fn accept_out(&mut self, time: u64, address: u32, r: &Record) -> Result<View, Refusal>
         ensures table { self.new ≡ (called (call.accept_out time address r.now) self.old).table }
         ensures answer { result ≡ answer_of view_in (called (call.accept_out time address r.now) self.old).answer }
+        ensures code { code_in result ≡ code_of (called (call.accept_out time address r.now) self.old).answer }
     {
         if !self.is_well_formed() {
             return Err(Refusal::NotWellFormed);

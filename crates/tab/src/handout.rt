@@ -2,35 +2,38 @@
 
 ghost use Rattle.std.specs.Prelude.{◌≡◌, length, map, All};
 ghost use Rattle.list.specs.Find.{has};
-ghost use Rattle.model.specs.State as model;
 ghost use Rattle.model.specs.Rust.{holds, holds_off, holds_on};
 ghost use Rattle.model.specs.Calls as Calls;
 ghost use Rattle.model.specs.Port.{reply};
-ghost use Rattle.chan.specs.Channels.{data_of, IsOffData, off_of, IsOffChannel, on_of, IsOnChannel};
+ghost use Rattle.queues.specs.Made.{bundles_of, IsBundles};
+ghost use Rattle.chan.specs.Channels.{off_of, IsOffChannel, on_of, IsOnChannel};
 ghost use Rattle.tab.specs.Tables.{IsTable, state_of};
+ghost use Rattle.tab.specs.Answers.{code_in, code_of};
 ghost use Rattle.tab.specs.Calls.{called, answer_of, bundle_in, held_in};
 ghost use Rattle.tab.specs.Offers.{offered, left_after};
 
 use crate::Table;
-use chan::{OffChannel, OffData, OnChannel};
+use chan::{OffChannel, OnChannel};
 use packet::{Key, Refusal};
+use queues::Bundles;
 
-/// The handles of the bundle that is next go to the lent list, where one waits and they have room there; it is gone then.
+/// The handles of the bundle that is next are written from the front of the lent list, and it is gone: the answer is how many, or `None`
+/// where none waits. A lent list that is too short for them is refused, and nothing is changed or written.
 #[tactic(auto, using(crate::proofs::Offers::no_first, crate::proofs::Offers::first_length, crate::proofs::Offers::short_offered, crate::proofs::Offers::short_left, crate::proofs::Offers::one_offered, crate::proofs::Offers::one_left))]
-fn hand_out(d: &mut OffData, lent: &mut [u32]) -> Result<Option<usize>, Refusal>
-    requires { IsOffData d.old }
-    ensures data { IsOffData d.new }
-    ensures items { data_of d.new ≡ model.with_bundles (left_after (data_of d.old).bundles (length lent.old)) (data_of d.old) }
-    ensures answer { result ≡ answer_of bundle_in (offered (data_of d.old).bundles (length lent.old)) }
-    ensures lent { lent.new ≡ Calls.lent (offered (data_of d.old).bundles (length lent.old)) lent.old }
+pub fn hand_out(b: &mut Bundles, lent: &mut [u32]) -> Result<Option<usize>, Refusal>
+    requires { IsBundles b.old }
+    ensures bundles { IsBundles b.new }
+    ensures items { bundles_of b.new ≡ left_after (bundles_of b.old) (length lent.old) }
+    ensures answer { result ≡ answer_of bundle_in (offered (bundles_of b.old) (length lent.old)) }
+    ensures lent { lent.new ≡ Calls.lent (offered (bundles_of b.old) (length lent.old)) lent.old }
 {
-    match d.bundles.front_len() {
+    match b.front_len() {
         None => Ok(None),
         Some(n) => {
             if lent.len() < n {
                 return Err(Refusal::ListTooShort);
             }
-            d.bundles.pop_front(lent);
+            b.pop_front(lent);
             Ok(Some(n))
         }
     }
@@ -76,9 +79,9 @@ impl Table {
             None => Err(Refusal::ChannelAbsent),
             Some(i) => {
                 if key.on == 1 {
-                    hand_out(&mut self.ons[i].off, lent)
+                    hand_out(&mut self.ons[i].off.bundles, lent)
                 } else {
-                    hand_out(&mut self.offs[i].off, lent)
+                    hand_out(&mut self.offs[i].off.bundles, lent)
                 }
             }
         }
@@ -90,6 +93,7 @@ impl Table {
     pub fn next_bundle(&mut self, key: &Key, lent: &mut [u32]) -> Result<Option<usize>, Refusal>
         ensures table { self.new ≡ (called (Calls.next_bundle key.now lent.old) self.old).table }
         ensures answer { result ≡ answer_of bundle_in (called (Calls.next_bundle key.now lent.old) self.old).answer }
+        ensures code { code_in result ≡ code_of (called (Calls.next_bundle key.now lent.old) self.old).answer }
         ensures lent { lent.new ≡ Calls.lent (called (Calls.next_bundle key.now lent.old) self.old).answer lent.old }
     {
         if !self.is_well_formed() {
@@ -111,6 +115,7 @@ impl Table {
     pub fn holds(&self, handle: u32) -> Result<bool, Refusal>
         ensures table { self.now ≡ (called (Calls.holds handle) self.now).table }
         ensures answer { result ≡ answer_of held_in (called (Calls.holds handle) self.now).answer }
+        ensures code { code_in result ≡ code_of (called (Calls.holds handle) self.now).answer }
     {
         if self.is_well_formed() {
             return Ok(self.any_holds(handle));

@@ -14,8 +14,9 @@ use crate::Table;
 use chan::{OffChannel, OnChannel, Way};
 use packet::{Record, Refusal, View};
 
-/// A refusal for what the record would lead to leaves the table as the records before it did.
-fn is_late(refusal: Refusal) -> bool
+/// Whether a refusal is for what the record would lead to, a fragment beyond its group or a list over its limit: it leaves the channel and
+/// the last prefix as they were, and any other leaves what the rules before it changed.
+pub fn is_late(refusal: Refusal) -> bool
     ensures { result ≡ Spec.late refusal }
 {
     match refusal {

@@ -10,6 +10,7 @@ ghost use Rattle.model.specs.Rust as Rust;
 ghost use Rattle.chan.specs.Channels.{off_of, IsOffChannel, on_of, IsOnChannel};
 ghost use Rattle.tab.specs.Tables.{IsTable, state_of};
 ghost use Rattle.tab.specs.Resending.{off_rows, on_rows, offs_resent, ons_resent};
+ghost use Rattle.tab.specs.Answers.{code_in, code_of};
 ghost use Rattle.tab.specs.Calls.{called, answer_of, rows_in};
 
 use crate::Table;
@@ -125,6 +126,7 @@ impl Table {
     pub fn take_resends(&mut self, clock: Clock, lent: &mut [u32]) -> Result<usize, Refusal>
         ensures table { self.new ≡ (called (Calls.take_resends clock.time clock.timeout clock.give_up lent.old) self.old).table }
         ensures answer { result ≡ answer_of rows_in (called (Calls.take_resends clock.time clock.timeout clock.give_up lent.old) self.old).answer }
+        ensures code { code_in result ≡ code_of (called (Calls.take_resends clock.time clock.timeout clock.give_up lent.old) self.old).answer }
         ensures lent { lent.new ≡ Calls.lent (called (Calls.take_resends clock.time clock.timeout clock.give_up lent.old) self.old).answer lent.old }
         ensures few { IfOk result (λ n. n ≤ 384) }
     {

@@ -9,6 +9,7 @@ ghost use Rattle.model.specs.Rust as Rust;
 ghost use Rattle.tab.specs.Tables.{IsTable, state_of};
 ghost use Rattle.tab.specs.Keyed.{key_position, key_count};
 ghost use Rattle.tab.specs.Loose.{loosed};
+ghost use Rattle.tab.specs.Answers.{code_in, code_of};
 ghost use Rattle.tab.specs.Calls.{called, answer_of, prepared_in};
 
 use crate::Table;
@@ -183,6 +184,7 @@ impl Table {
     ) -> Result<Prepared, Refusal>
         ensures table { self.new ≡ (called (Calls.prepare time key.now reliable handles.now) self.old).table }
         ensures answer { result ≡ answer_of prepared_in (called (Calls.prepare time key.now reliable handles.now) self.old).answer }
+        ensures code { code_in result ≡ code_of (called (Calls.prepare time key.now reliable handles.now) self.old).answer }
     {
         if !self.is_well_formed() {
             return Err(Refusal::NotWellFormed);

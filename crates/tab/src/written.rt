@@ -7,6 +7,7 @@ ghost use Rattle.model.specs.Calls as Calls;
 ghost use Rattle.model.specs.Port.{reply};
 ghost use Rattle.chan.specs.Channels.{data_of, IsOffData};
 ghost use Rattle.tab.specs.Tables.{IsTable, state_of};
+ghost use Rattle.tab.specs.Answers.{code_in, code_of};
 ghost use Rattle.tab.specs.Calls.{called, answer_of, done_in};
 ghost use Rattle.tab.specs.Offers.{wrote_answer, queue_after, absent_refusal};
 
@@ -65,6 +66,7 @@ impl Table {
     pub fn acks_written(&mut self, key: &Key, names: &[u32]) -> Result<(), Refusal>
         ensures table { self.new ≡ (called (Calls.acks_written key.now names.now) self.old).table }
         ensures answer { result ≡ answer_of done_in (called (Calls.acks_written key.now names.now) self.old).answer }
+        ensures code { code_in result ≡ code_of (called (Calls.acks_written key.now names.now) self.old).answer }
     {
         if !self.is_well_formed() {
             return Err(Refusal::NotWellFormed);

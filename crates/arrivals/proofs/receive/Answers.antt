@@ -1,4 +1,4 @@
-use Rattle.std.proofs.Common.{ap, ◌∙◌}
+use Rattle.std.proofs.Common.{ap}
 use Rattle.list.proofs.Edits.{on_err}
 use Rattle.model.specs.State as model
 use Rattle.model.specs.Record.{reliable_of}
@@ -20,4 +20,4 @@ returns-clause-ordered c = fed_all _ _ c.args.packets.now c.loop-p.p-index c.req
 
 pub returns-in_err-add_in_reliable_packet-clause-refused : goal.returns-in_err-add_in_reliable_packet-clause-refused
 returns-in_err-add_in_reliable_packet-clause-refused c =
-    on_err _ (fed_front _ _ c.args.packets.now c.loop-p.p-index c.requires.new (ap reliable c.in_err-add_in_reliable_packet.ensures.unchanged ∙ c.loop-p.invariant.fed) c.loop-p-test.true)
+    on_err _ (fed_front _ _ _ c.args.packets.now c.loop-p.p-index _ c.in_err-add_in_reliable_packet.ensures.unchanged c.requires.new c.loop-p.invariant.fed c.loop-p-test.true c.in_err-add_in_reliable_packet.ensures.full)

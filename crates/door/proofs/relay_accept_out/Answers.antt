@@ -1,10 +1,11 @@
-use Rattle.std.proofs.Common.{refl}
+use Rattle.std.proofs.Common.{refl, ◌∙◌}
 use Rattle.tab.specs.Calls.{view_in}
-use Rattle.door.proofs.Fitting.{view-says, code-says, call-fits, accept-out-fits}
+use Rattle.tab.proofs.Fitting.{call-fits, accept-out-fits}
+use Rattle.door.proofs.Fitting.{view-says}
 use Rattle.door.proofs.relay_accept_out.Goals as goal
 
 pub returns-clause-answer : goal.returns-clause-answer
 returns-clause-answer c = view-says _ _ _ _ c.none.ensures c.accept_out.ensures.answer (call-fits view_in _ refl (accept-out-fits _ _ _) _) c.answered.ensures.answer
 
 pub returns-clause-code : goal.returns-clause-code
-returns-clause-code c = code-says view_in _ _ _ c.accept_out.ensures.answer (call-fits view_in _ refl (accept-out-fits _ _ _) _) c.answered.ensures.code
+returns-clause-code c = c.answered.ensures.code ∙ c.accept_out.ensures.code

@@ -1,6 +1,7 @@
 use Rattle.std.proofs.Common.{refl, sym, ap, ◌+◌, ◌∙◌}
 use Rattle.tab.specs.Calls.{held_in}
-use Rattle.door.proofs.Fitting.{held-result, held-fits, call-fits, holds-fits}
+use Rattle.tab.proofs.Fitting.{call-fits, holds-fits}
+use Rattle.door.proofs.Fitting.{held-result, held-fits}
 use Rattle.door.proofs.relay_holds.Goals as goal
 
 pub returns-in-Ok : goal.returns-in-Ok

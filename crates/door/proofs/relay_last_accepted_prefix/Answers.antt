@@ -1,6 +1,7 @@
 use Rattle.std.proofs.Common.{refl, sym, ap, ◌*◌, ◌∙◌}
 use Rattle.tab.specs.Calls.{prefix_in}
-use Rattle.door.proofs.Fitting.{prefix-result, prefix-is-fits, call-fits, last-fits}
+use Rattle.tab.proofs.Fitting.{call-fits, last-fits}
+use Rattle.door.proofs.Fitting.{prefix-result, prefix-is-fits}
 use Rattle.door.proofs.relay_last_accepted_prefix.Goals as goal
 
 pub returns-in-Ok : goal.returns-in-Ok

@@ -1,7 +1,8 @@
 use Rattle.std.proofs.Common.{◌≡◌, ◌≤◌, refl, sym, ap, ◌+◌, ◌∙◌, Ok, arith, rules}
 use Rattle.std.specs.declared.option.Option.TheVariants.{None, Some}
 use Rattle.tab.specs.Calls.{bundle_in}
-use Rattle.door.proofs.Fitting.{bundle-result, bundle-fits, call-fits, next-fits}
+use Rattle.tab.proofs.Fitting.{call-fits, next-fits}
+use Rattle.door.proofs.Fitting.{bundle-result, bundle-fits}
 use Rattle.door.proofs.Long.{popped-small}
 use Rattle.door.proofs.relay_next_bundle.Goals as goal
 

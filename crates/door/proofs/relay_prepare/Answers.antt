@@ -3,7 +3,7 @@ use Rattle.model.specs.Calls as call
 use Rattle.tab.specs.Calls.{called, answer_of, prepared_in}
 use Rattle.packet.specs.Refusals.{number}
 use Rattle.tab.specs.Answers.{code_of, prepared_of}
-use Rattle.door.proofs.Fitting.{prepared-says, code-says, call-fits, prepare-fits}
+use Rattle.door.proofs.Fitting.{prepared-says}
 use Rattle.door.proofs.Long.{handles-long, send-table, send-answer}
 use Rattle.door.proofs.relay_prepare.Goals as goal
 
@@ -14,8 +14,7 @@ returns-in-Some-clause-answer c =
 
 pub returns-in-Some-clause-code : goal.returns-in-Some-clause-code
 returns-in-Some-clause-code c =
-    let e = c.prepare.ensures.answer ∙ ap (λ (hs : List ℕ). answer_of prepared_in (called (call.prepare c.args.time c.args.k.now c.args.reliable hs) c.args.t.now).answer) c.in-Some.ensures.some in
-    code-says prepared_in _ _ _ e (call-fits prepared_in _ refl (λ s. prepare-fits _ s _ _ _) _) c.answered.ensures.code
+    c.answered.ensures.code ∙ c.prepare.ensures.code ∙ ap (λ (hs : List ℕ). code_of (called (call.prepare c.args.time c.args.k.now c.args.reliable hs) c.args.t.now).answer) c.in-Some.ensures.some
 
 pub returns-in-None-clause-table : goal.returns-in-None-clause-table
 returns-in-None-clause-table c = send-table c.args.time c.args.k.now c.args.reliable _ (handles-long c.args.h.now c.in-None.ensures.none) c.args.t.now

@@ -1,6 +1,7 @@
 use Rattle.std.proofs.Common.{◌≤◌, rules, refl, sym, ap, ◌+◌, ◌∙◌}
 use Rattle.tab.specs.Calls.{rows_in}
-use Rattle.door.proofs.Fitting.{rows-result, rows-fits, call-fits, resends-fits}
+use Rattle.tab.proofs.Fitting.{call-fits, resends-fits}
+use Rattle.door.proofs.Fitting.{rows-result, rows-fits}
 use Rattle.door.proofs.relay_take_resends.Goals as goal
 
 pub overflow_cast-result : goal.overflow_cast-result

@@ -14,16 +14,16 @@ use Rattle.chan.proofs.OnChannel.accept_out.Goals as goal
 pub returns-in_err-forwarded-clause-result : goal.returns-in_err-forwarded-clause-result
 returns-in_err-forwarded-clause-result c =
     let e : c.from_residual.result ≡ Err OverLimit = search rules in
-    e ∙ refused_result (settled fits_on (granted (forward_on c.args.time c.args.r.now (on_of c.args.self.now))) (on_of c.args.self.now)) _ _ (out_over c.args.time c.args.r.now (on_of c.args.self.now) (on_fits c.args.self.now c.requires.channel) c.in_err-forwarded.ensures.full)
+    e ∙ refused_result (settled fits_on (granted (forward_on c.args.time c.args.r.now (on_of c.args.self.now))) (on_of c.args.self.now)) _ _ (out_over c.args.time c.args.r.now (on_of c.args.self.now) (on_fits c.args.self.now c.requires) c.in_err-forwarded.ensures.full)
 
 pub returns-in_err-forwarded-clause-items : goal.returns-in_err-forwarded-clause-items
 returns-in_err-forwarded-clause-items c =
-    ap (λ d. on_of (record c.args.self.now { off = d })) c.in_err-forwarded.ensures.unchanged ∙ refused_channel (settled fits_on (granted (forward_on c.args.time c.args.r.now (on_of c.args.self.now))) (on_of c.args.self.now)) _ _ (out_over c.args.time c.args.r.now (on_of c.args.self.now) (on_fits c.args.self.now c.requires.channel) c.in_err-forwarded.ensures.full)
+    ap (λ d. on_of (record c.args.self.now { off = d })) c.in_err-forwarded.ensures.unchanged ∙ refused_channel (settled fits_on (granted (forward_on c.args.time c.args.r.now (on_of c.args.self.now))) (on_of c.args.self.now)) _ _ (out_over c.args.time c.args.r.now (on_of c.args.self.now) (on_fits c.args.self.now c.requires) c.in_err-forwarded.ensures.full)
 
 pub returns-clause-result : goal.returns-clause-result
-returns-clause-result c = kept_result (settled fits_on (granted (forward_on c.args.time c.args.r.now (on_of c.args.self.now))) (on_of c.args.self.now)) _ (out_kept c.args.time c.args.r.now (on_of c.args.self.now) (on_fits c.args.self.now c.requires.channel) (data_fits_as _ _ c.in_ok-forwarded.ensures.data c.in_ok-forwarded.ensures.items))
+returns-clause-result c = kept_result (settled fits_on (granted (forward_on c.args.time c.args.r.now (on_of c.args.self.now))) (on_of c.args.self.now)) _ (out_kept c.args.time c.args.r.now (on_of c.args.self.now) (on_fits c.args.self.now c.requires) (data_fits_as _ _ c.in_ok-forwarded.ensures.data c.in_ok-forwarded.ensures.items))
 
 pub returns-clause-items : goal.returns-clause-items
 returns-clause-items c =
     ap (λ (d : OffData). on_with d (on_of c.args.self.now)) c.in_ok-forwarded.ensures.items
-    ∙ kept_channel (settled fits_on (granted (forward_on c.args.time c.args.r.now (on_of c.args.self.now))) (on_of c.args.self.now)) _ (out_kept c.args.time c.args.r.now (on_of c.args.self.now) (on_fits c.args.self.now c.requires.channel) (data_fits_as _ _ c.in_ok-forwarded.ensures.data c.in_ok-forwarded.ensures.items))
+    ∙ kept_channel (settled fits_on (granted (forward_on c.args.time c.args.r.now (on_of c.args.self.now))) (on_of c.args.self.now)) _ (out_kept c.args.time c.args.r.now (on_of c.args.self.now) (on_fits c.args.self.now c.requires) (data_fits_as _ _ c.in_ok-forwarded.ensures.data c.in_ok-forwarded.ensures.items))

@@ -6,23 +6,23 @@ use Rattle.chan.proofs.Came.{on_full_result, on_full_items, on_over_result, on_o
 use Rattle.chan.proofs.OnChannel.accept_reliable.Goals as goal
 
 pub returns-then-is_ack_queue_full-clause-result : goal.returns-then-is_ack_queue_full-clause-result
-returns-then-is_ack_queue_full-clause-result c = on_full_result c.args.forwarding c.args.r.now (on_of c.args.self.now) (on_fits c.args.self.now c.requires.channel) _ refl (is_full_by c.args.self.now.off c.requires.channel.off _ c.is_ack_queue_full.ensures c.if-is_ack_queue_full.true)
+returns-then-is_ack_queue_full-clause-result c = on_full_result c.args.forwarding c.args.r.now (on_of c.args.self.now) (on_fits c.args.self.now c.requires) _ refl (is_full_by c.args.self.now.off c.requires.off _ c.is_ack_queue_full.ensures c.if-is_ack_queue_full.true)
 
 pub returns-then-is_ack_queue_full-clause-items : goal.returns-then-is_ack_queue_full-clause-items
-returns-then-is_ack_queue_full-clause-items c = on_full_items c.args.forwarding c.args.r.now (on_of c.args.self.now) (on_fits c.args.self.now c.requires.channel) _ refl (is_full_by c.args.self.now.off c.requires.channel.off _ c.is_ack_queue_full.ensures c.if-is_ack_queue_full.true)
+returns-then-is_ack_queue_full-clause-items c = on_full_items c.args.forwarding c.args.r.now (on_of c.args.self.now) (on_fits c.args.self.now c.requires) _ refl (is_full_by c.args.self.now.off c.requires.off _ c.is_ack_queue_full.ensures c.if-is_ack_queue_full.true)
 
 pub returns-in_err-add_in_reliable_packet-clause-result : goal.returns-in_err-add_in_reliable_packet-clause-result
 returns-in_err-add_in_reliable_packet-clause-result c =
     let e : c.from_residual.result ≡ Err OverLimit = search rules in
-    e ∙ on_over_result c.args.forwarding c.args.r.now (on_of c.args.self.now) (on_fits c.args.self.now c.requires.channel) _ c.packet.ensures c.in_err-add_in_reliable_packet.ensures.full
+    e ∙ on_over_result c.args.forwarding c.args.r.now (on_of c.args.self.now) (on_fits c.args.self.now c.requires) _ c.packet.ensures c.in_err-add_in_reliable_packet.ensures.full
 
 pub returns-in_err-add_in_reliable_packet-clause-items : goal.returns-in_err-add_in_reliable_packet-clause-items
-returns-in_err-add_in_reliable_packet-clause-items c = ap on_of c.in_err-add_in_reliable_packet.ensures.unchanged ∙ on_over_items c.args.forwarding c.args.r.now (on_of c.args.self.now) (on_fits c.args.self.now c.requires.channel) _ c.packet.ensures c.in_err-add_in_reliable_packet.ensures.full
+returns-in_err-add_in_reliable_packet-clause-items c = ap on_of c.in_err-add_in_reliable_packet.ensures.unchanged ∙ on_over_items c.args.forwarding c.args.r.now (on_of c.args.self.now) (on_fits c.args.self.now c.requires) _ c.packet.ensures c.in_err-add_in_reliable_packet.ensures.full
 
 pub returns-clause-result : goal.returns-clause-result
-returns-clause-result c = on_taken_result c.args.forwarding c.args.r.now (on_of c.args.self.now) (on_fits c.args.self.now c.requires.channel) _ c.packet.ensures (has_room_by c.args.self.now.off c.requires.channel.off _ c.is_ack_queue_full.ensures c.if-is_ack_queue_full.false) c.in_ok-add_in_reliable_packet.ensures.fits
+returns-clause-result c = on_taken_result c.args.forwarding c.args.r.now (on_of c.args.self.now) (on_fits c.args.self.now c.requires) _ c.packet.ensures (has_room_by c.args.self.now.off c.requires.off _ c.is_ack_queue_full.ensures c.if-is_ack_queue_full.false) c.in_ok-add_in_reliable_packet.ensures.fits
 
 pub returns-clause-items : goal.returns-clause-items
 returns-clause-items c =
-    on_taken_items c.args.forwarding c.args.r.now (on_of c.args.self.now) (on_fits c.args.self.now c.requires.channel) _ c.packet.ensures (has_room_by c.args.self.now.off c.requires.channel.off _ c.is_ack_queue_full.ensures c.if-is_ack_queue_full.false) c.in_ok-add_in_reliable_packet.ensures.fits _ _ _ _
+    on_taken_items c.args.forwarding c.args.r.now (on_of c.args.self.now) (on_fits c.args.self.now c.requires) _ c.packet.ensures (has_room_by c.args.self.now.off c.requires.off _ c.is_ack_queue_full.ensures c.if-is_ack_queue_full.false) c.in_ok-add_in_reliable_packet.ensures.fits _ _ _ _
     c.in_ok-add_in_reliable_packet.ensures.items c.acked_on.ensures.items c.queue_ack.ensures.items c.observe.ensures.items

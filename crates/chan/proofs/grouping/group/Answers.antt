@@ -1,7 +1,7 @@
 use Rattle.std.proofs.Common.{◌≤◌, arith, length, drop, length-drop}
 use Rattle.list.proofs.Edits.{on_err}
 use Rattle.queues.specs.Made.{bundles_of}
-use Rattle.chan.proofs.Steps.{from_at, part_at, part_size, skips, takes, stopped_made, stopped_rest, skipped, made_one, too_many}
+use Rattle.chan.proofs.Steps.{from_at, part_at, part_size, skips, takes, stopped_made, stopped_rest, skipped, made_one, too_many, still_first}
 use Rattle.chan.proofs.grouping.group.Goals as goal
 
 pub returns-in-Stop-clause-items : goal.returns-in-Stop-clause-items
@@ -22,6 +22,7 @@ loop-n-preserved-in-Skip c =
     record {
       within = omega (arith, most, c.loop-n.invariant.within, length-drop c.loop-n.at c.args.packets.now);
       bundles = c.loop-n.invariant.bundles;
+      first = c.loop-n.invariant.first;
       rest = skipped c.args.packets.now c.loop-n.at c.in-Skip.n _ _ c.loop-n.invariant.rest (rw from_at at c.in-Skip.ensures.says);
     }
 
@@ -43,6 +44,7 @@ loop-n-preserved c =
     record {
       within = omega (arith, most, c.loop-n.invariant.within, length-drop c.loop-n.at c.args.packets.now);
       bundles = c.in_ok-push-in-Take.ensures.bundles;
+      first = rw c.in_ok-push-in-Take.ensures.items (still_first (bundles_of c.args.made.now) (bundles_of c.loop-n.made) _ c.loop-n.invariant.first);
       rest =
           rw (c.in_ok-push-in-Take.ensures.items, part_at c.args.packets.now c.loop-n.at c.in-Take.n)
           (made_one c.args.packets.now c.loop-n.at c.in-Take.n _ _ c.loop-n.invariant.rest (rw from_at at c.in-Take.ensures.says));

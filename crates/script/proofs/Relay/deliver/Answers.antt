@@ -6,8 +6,8 @@ use Rattle.script.proofs.Relay.deliver.Goals as goal
 
 pub returns-in-Ok-clause-says : goal.returns-in-Ok-clause-says
 returns-in-Ok-clause-says c =
-    delivered_says (plain_of c.args.self.now) c.args.time c.args.address c.args.r _ _ _ _ (Ok c.in-Ok.view) _ _ _ _ (c.as_slice.ensures ∙ c.push.ensures.items) c.accept-delivery.ensures.table c.accept-delivery.ensures.answer c.new-self.ensures.items (sym c.in-Ok.is) c.write_ok.ensures.wrote
+    delivered_says (plain_of c.args.self.now) c.args.time c.args.address c.args.r _ _ _ _ (Ok c.in-Ok.view) _ _ _ _ (c.as_slice.ensures ∙ c.push.ensures.items) c.accept-delivery.ensures.table c.accept-delivery.ensures.answer c.use_up.ensures.used (sym c.in-Ok.is) c.write_ok.ensures.wrote
 
 pub returns-in-Err-clause-says : goal.returns-in-Err-clause-says
 returns-in-Err-clause-says c =
-    delivered_says (plain_of c.args.self.now) c.args.time c.args.address c.args.r _ _ _ _ (Err c.in-Err.refusal) _ _ _ _ (c.as_slice.ensures ∙ c.push.ensures.items) c.accept-delivery.ensures.table c.accept-delivery.ensures.answer c.new-self.ensures.items (sym c.in-Err.is) (numbered _ _ _ _ _ _ c.code.ensures c.write_no.ensures.wrote)
+    delivered_says (plain_of c.args.self.now) c.args.time c.args.address c.args.r _ _ _ _ (Err c.in-Err.refusal) _ _ _ _ (c.as_slice.ensures ∙ c.push.ensures.items) c.accept-delivery.ensures.table c.accept-delivery.ensures.answer c.use_up.ensures.used (sym c.in-Err.is) (numbered _ _ _ _ _ _ c.code.ensures c.write_no.ensures.wrote)

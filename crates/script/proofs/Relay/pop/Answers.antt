@@ -1,5 +1,5 @@
 -- A refusal, no bundle, or one that has room in 64 places.
-use Rattle.std.proofs.Common.{◌≡◌, ◌≤◌, sym, ap, ◌∙◌, Ok, Err, arith, rules, length, length-take-le}
+use Rattle.std.proofs.Common.{◌≤◌, sym, ap, ◌∙◌, Ok, Err, arith, rules, length, length-take-le}
 use Rattle.std.specs.declared.option.Option.TheVariants.{None, Some}
 use Rattle.script.specs.Holding.{plain_of}
 use Rattle.script.proofs.Says.{numbered, wider, popped_says, popped_short}
@@ -23,7 +23,7 @@ write_bundle-requires c =
     let e = sym (c.in-Ok-Some.is ∙ ap Ok c.in-Ok-Some.field-0-is) ∙ c.next_bundle.ensures.answer in
     let m : c.in-Ok-Some.n ≤ 64 = popped_short (plain_of c.args.self.now) c.args.key.now c.next_bundle.new.self c.next_bundle.new.lent (Ok (Some c.in-Ok-Some.n)) c.args.page.now.buf.now c.args.page.now.buf.now 0 0 e in
     let h : c.in-Ok-Some.n ≤ length c.next_bundle.new.lent = search rules in
-    record { few = omega (arith, m, length-take-le c.in-Ok-Some.n c.next_bundle.new.lent h); room = c.requires.room }
+    record { few = omega (arith, m, length-take-le c.in-Ok-Some.n c.next_bundle.new.lent h); room = c.requires }
 
 pub returns-in-Ok-None-clause-says : goal.returns-in-Ok-None-clause-says
 returns-in-Ok-None-clause-says c =

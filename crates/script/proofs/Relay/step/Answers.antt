@@ -31,4 +31,4 @@ returns-in-Err-Line-clause-says c =
 pub returns-in-Err-Arrival-clause-says : goal.returns-in-Err-Arrival-clause-says
 returns-in-Err-Arrival-clause-says c =
     let a = c.in-Err-Arrival in
-    as_read (plain_of c.args.self.now) c.args.line.now (Err Arrival) _ _ _ _ _ (cc (a.is, a.field-0-is, c.read_line.ensures)) (bad _ _ _ _ _ _ (ap (λ (l : List Record). plain c.args.self.now.table l) c.new-self.ensures.items) c.write_bad-in-Err-Arrival.ensures.wrote)
+    as_read (plain_of c.args.self.now) c.args.line.now (Err Arrival) _ _ _ _ _ (cc (a.is, a.field-0-is, c.read_line.ensures)) (bad _ _ _ _ _ _ c.use_up.ensures.used c.write_bad-in-Err-Arrival.ensures.wrote)

@@ -5,9 +5,9 @@ use Rattle.model.specs.Port.{Reply, reply, untimed, refuse}
 use Rattle.packet.specs.declared.Refusal.TheVariants.{OutOfRange, ChannelAbsent}
 use Rattle.tab.specs.Tables.{state_of}
 use Rattle.tab.specs.Calls.{answer_of, bundle_in}
-use Rattle.tab.specs.Offers.{offered, left_after}
+use Rattle.tab.specs.Offers.{offered}
 use Rattle.tab.proofs.Named.{told, key_absent, key_there, on_below, on_lists, on_data, on_table, on_state, off_below, off_lists, off_data, off_table, off_state}
-use Rattle.tab.proofs.Offers.{next_malformed, next_absent, next_given}
+use Rattle.tab.proofs.Offers.{next_malformed, next_absent, next_given, bundles_put, bundles_left}
 use Rattle.tab.proofs.Table.hand_out.Goals as goal
 use Rattle.tab.proofs.Table.hand_out.Goals.{Then-not-well_made, In-None}
 
@@ -42,19 +42,19 @@ returns-in-None-clause-lent c = sym (ap (λ (r : Reply). Calls.lent r.answer c.a
 pub hand_out-requires : goal.hand_out-requires
 hand_out-requires c =
     let lt = on_below _ c.requires _ _ _ c.position.ensures.first c.in-Some.is c.if-key-eq1.true c.in-Some.ensures.within in
-    on_lists _ c.requires _ _ _ c.position.ensures.first c.in-Some.is c.if-key-eq1.true lt _
+    (on_lists _ c.requires _ _ _ c.position.ensures.first c.in-Some.is c.if-key-eq1.true lt _).bundles
 
 pub returns-then-key-eq1-clause-table : goal.returns-then-key-eq1-clause-table
 returns-then-key-eq1-clause-table c =
     let lt = on_below _ c.requires _ _ _ c.position.ensures.first c.in-Some.is c.if-key-eq1.true c.in-Some.ensures.within in
-    on_table _ c.requires _ _ _ c.position.ensures.first c.in-Some.is c.if-key-eq1.true lt _ _ c.hand_out.ensures.data
+    on_table _ c.requires _ _ _ c.position.ensures.first c.in-Some.is c.if-key-eq1.true lt _ _ (bundles_put _ _ (on_lists _ c.requires _ _ _ c.position.ensures.first c.in-Some.is c.if-key-eq1.true lt _) c.hand_out.ensures.bundles)
 
 pub returns-then-key-eq1-clause-state : goal.returns-then-key-eq1-clause-state
 returns-then-key-eq1-clause-state c =
     let lt = on_below _ c.requires _ _ _ c.position.ensures.first c.in-Some.is c.if-key-eq1.true c.in-Some.ensures.within in
     let same = on_data _ c.requires _ _ _ c.position.ensures.first c.in-Some.is c.if-key-eq1.true lt _ in
     let given = next_given c.args.key.now c.args.lent.now (state_of c.args.self.now) (told _ _ _ c.well_made.ensures c.if-not-well_made.false) (key_there _ _ _ _ c.position.ensures.first c.in-Some.is) in
-    on_state _ c.requires _ _ _ c.position.ensures.first c.in-Some.is c.if-key-eq1.true lt _ _ _ (c.hand_out.ensures.items ∙ ap (λ (d : model.OffData). model.with_bundles (left_after d.bundles (length c.args.lent.now)) d) same)
+    on_state _ c.requires _ _ _ c.position.ensures.first c.in-Some.is c.if-key-eq1.true lt _ _ _ (bundles_left _ _ _ _ same c.hand_out.ensures.items)
     ∙ sym (ap (λ (r : Reply). r.state) given)
 
 pub returns-then-key-eq1-clause-answer : goal.returns-then-key-eq1-clause-answer
@@ -78,19 +78,19 @@ returns-then-key-eq1-clause-lent c =
 pub hand_out-requires-else-key-eq1 : goal.hand_out-requires-else-key-eq1
 hand_out-requires-else-key-eq1 c =
     let lt = off_below _ c.requires _ _ _ c.position.ensures.first c.in-Some.is c.if-key-eq1.false c.in-Some.ensures.within in
-    off_lists _ c.requires _ _ _ c.position.ensures.first c.in-Some.is c.if-key-eq1.false lt _
+    (off_lists _ c.requires _ _ _ c.position.ensures.first c.in-Some.is c.if-key-eq1.false lt _).bundles
 
 pub returns-else-key-eq1-clause-table : goal.returns-else-key-eq1-clause-table
 returns-else-key-eq1-clause-table c =
     let lt = off_below _ c.requires _ _ _ c.position.ensures.first c.in-Some.is c.if-key-eq1.false c.in-Some.ensures.within in
-    off_table _ c.requires _ _ _ c.position.ensures.first c.in-Some.is c.if-key-eq1.false lt _ _ c.hand_out-else-key-eq1.ensures.data
+    off_table _ c.requires _ _ _ c.position.ensures.first c.in-Some.is c.if-key-eq1.false lt _ _ (bundles_put _ _ (off_lists _ c.requires _ _ _ c.position.ensures.first c.in-Some.is c.if-key-eq1.false lt _) c.hand_out-else-key-eq1.ensures.bundles)
 
 pub returns-else-key-eq1-clause-state : goal.returns-else-key-eq1-clause-state
 returns-else-key-eq1-clause-state c =
     let lt = off_below _ c.requires _ _ _ c.position.ensures.first c.in-Some.is c.if-key-eq1.false c.in-Some.ensures.within in
     let same = off_data _ c.requires _ _ _ c.position.ensures.first c.in-Some.is c.if-key-eq1.false lt _ in
     let given = next_given c.args.key.now c.args.lent.now (state_of c.args.self.now) (told _ _ _ c.well_made.ensures c.if-not-well_made.false) (key_there _ _ _ _ c.position.ensures.first c.in-Some.is) in
-    off_state _ c.requires _ _ _ c.position.ensures.first c.in-Some.is c.if-key-eq1.false lt _ _ _ (c.hand_out-else-key-eq1.ensures.items ∙ ap (λ (d : model.OffData). model.with_bundles (left_after d.bundles (length c.args.lent.now)) d) same)
+    off_state _ c.requires _ _ _ c.position.ensures.first c.in-Some.is c.if-key-eq1.false lt _ _ _ (bundles_left _ _ _ _ same c.hand_out-else-key-eq1.ensures.items)
     ∙ sym (ap (λ (r : Reply). r.state) given)
 
 pub returns-else-key-eq1-clause-answer : goal.returns-else-key-eq1-clause-answer

@@ -3,6 +3,7 @@ use Rattle.model.specs.Calls as Calls
 use Rattle.model.specs.Port.{reply}
 use Rattle.tab.specs.Calls.{answer_of, held_in}
 use Rattle.tab.proofs.Called.{refused_table, refused_answer, in_form, granted_table, granted_answer}
+use Rattle.tab.proofs.Fitting.{code-says, call-fits, holds-fits}
 use Rattle.tab.proofs.Table.holds.Goals as goal
 
 pub returns-clause-table : goal.returns-clause-table
@@ -24,3 +25,9 @@ pub returns-then-is_well_formed-clause-answer : goal.returns-then-is_well_formed
 unfolding reply answer_of
 returns-then-is_well_formed-clause-answer c =
     granted_answer (Calls.holds c.args.handle) _ _ c.is_well_formed.ensures.test c.if-is_well_formed.true held_in _ (ap Ok c.any_holds.ensures)
+
+pub returns-clause-code : goal.returns-clause-code
+returns-clause-code c = code-says held_in _ _ (returns-clause-answer c) (call-fits held_in _ refl (holds-fits _) _)
+
+pub returns-then-is_well_formed-clause-code : goal.returns-then-is_well_formed-clause-code
+returns-then-is_well_formed-clause-code c = code-says held_in _ _ (returns-then-is_well_formed-clause-answer c) (call-fits held_in _ refl (holds-fits _) _)

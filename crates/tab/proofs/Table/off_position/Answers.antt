@@ -8,4 +8,4 @@ use Rattle.tab.proofs.Table.off_position.Goals as goal
 pub returns-clause-first : goal.returns-clause-first
 unfolding state_of
 returns-clause-first c =
-    c.off_position.ensures ∙ position_view (model.is_off c.args.address) off_of (take c.args.self.now.offcount c.args.self.now.offs)
+    rw c.used.ensures at c.off_position.ensures ∙ position_view (model.is_off c.args.address) off_of (take c.args.self.now.offcount c.args.self.now.offs)

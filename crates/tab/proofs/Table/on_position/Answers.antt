@@ -8,4 +8,4 @@ use Rattle.tab.proofs.Table.on_position.Goals as goal
 pub returns-clause-first : goal.returns-clause-first
 unfolding state_of
 returns-clause-first c =
-    c.on_position.ensures ∙ position_view (model.is_on c.args.address c.args.index) on_of (take c.args.self.now.oncount c.args.self.now.ons)
+    rw c.used.ensures at c.on_position.ensures ∙ position_view (model.is_on c.args.address c.args.index) on_of (take c.args.self.now.oncount c.args.self.now.ons)

@@ -3,6 +3,7 @@ use Rattle.model.specs.Calls as Calls
 use Rattle.model.specs.Port.{reply}
 use Rattle.tab.specs.Calls.{answer_of, done_in}
 use Rattle.tab.proofs.Called.{refused_table, refused_answer, in_form, granted_table, granted_answer}
+use Rattle.tab.proofs.Fitting.{code-says, call-fits, reset-fits}
 use Rattle.tab.proofs.Table.reset_prefix_offset.Goals as goal
 
 pub returns-then-not-is_well_formed-clause-table : goal.returns-then-not-is_well_formed-clause-table
@@ -21,3 +22,9 @@ returns-clause-table c = granted_table Calls.reset_prefix_offset _ _ c.is_well_f
 pub returns-clause-answer : goal.returns-clause-answer
 unfolding reply answer_of
 returns-clause-answer c = granted_answer Calls.reset_prefix_offset _ _ c.is_well_formed.ensures.test c.if-not-is_well_formed.false done_in _ refl
+
+pub returns-then-not-is_well_formed-clause-code : goal.returns-then-not-is_well_formed-clause-code
+returns-then-not-is_well_formed-clause-code c = code-says done_in _ _ (returns-then-not-is_well_formed-clause-answer c) (call-fits done_in _ refl reset-fits _)
+
+pub returns-clause-code : goal.returns-clause-code
+returns-clause-code c = code-says done_in _ _ (returns-clause-answer c) (call-fits done_in _ refl reset-fits _)

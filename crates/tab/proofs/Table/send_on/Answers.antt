@@ -4,8 +4,8 @@ use Rattle.tab.proofs.Steps.{on_good, on_set}
 use Rattle.tab.proofs.SendPlace.{on_granted_state, on_granted_answer, on_full_state, on_full_answer}
 use Rattle.tab.proofs.Table.send_on.Goals as goal
 
-pub send-requires-clause-channel : goal.send-requires-clause-channel
-send-requires-clause-channel c = on_good _ c.requires.table _ c.requires.there _
+pub send-requires-clause-list : goal.send-requires-clause-list
+send-requires-clause-list c = (on_good _ c.requires.table _ c.requires.there _).off.out
 
 pub returns-in_err-first-clause-state : goal.returns-in_err-first-clause-state
 returns-in_err-first-clause-state c =
@@ -19,15 +19,15 @@ returns-in_err-first-clause-answer c =
     e ∙ on_full_answer _ c.requires.table _ _ c.requires.place _ _ c.requires.asked c.requires.now o c.requires.there _ c.send.new.self c.in_err-first.ensures.full
 
 pub returns-clause-table : goal.returns-clause-table
-returns-clause-table c = on_set _ c.requires.table _ c.requires.there _ c.in_ok-first.ensures.channel
+returns-clause-table c = on_set _ c.requires.table _ c.requires.there _ (c.in_ok-first.ensures.channel (on_good _ c.requires.table _ c.requires.there _))
 
 pub returns-clause-state : goal.returns-clause-state
 returns-clause-state c =
     let o = eq-eqb c.args.key.now.on 1 c.requires.on in
-    on_granted_state _ c.requires.table _ _ c.requires.place _ _ c.requires.asked c.requires.now o c.requires.there _ _ c.in_ok-first.ensures.items c.in_ok-first.ensures.channel
+    on_granted_state _ c.requires.table _ _ c.requires.place _ _ c.requires.asked c.requires.now o c.requires.there _ _ c.in_ok-first.ensures.items (c.in_ok-first.ensures.channel (on_good _ c.requires.table _ c.requires.there _))
 
 pub returns-clause-answer : goal.returns-clause-answer
 returns-clause-answer c =
     let o = eq-eqb c.args.key.now.on 1 c.requires.on in
-    on_granted_answer _ c.requires.table _ _ c.requires.place _ _ c.requires.asked c.requires.now o c.requires.there _ _ c.in_ok-first.ensures.items c.in_ok-first.ensures.channel
+    on_granted_answer _ c.requires.table _ _ c.requires.place _ _ c.requires.asked c.requires.now o c.requires.there _ _ c.in_ok-first.ensures.items (c.in_ok-first.ensures.channel (on_good _ c.requires.table _ c.requires.there _))
     _ _ c.get.result c.answer.ensures c.view-view.ensures (c.get.ensures ∙ c.in_ok-first.ensures.first)

@@ -3,8 +3,8 @@ use Rattle.tab.proofs.Steps.{off_good}
 use Rattle.tab.proofs.Ways.{off_at_form, off_at_late_form, off_at_ok_state, off_at_ok_answer, off_at_err_answer, off_at_kept_state, off_at_late_state}
 use Rattle.tab.proofs.Table.settle_off_at.Goals as goal
 
-pub take-requires-clause-channel : goal.take-requires-clause-channel
-take-requires-clause-channel c = off_good c.args.self.now c.requires.table _ c.requires.within _
+pub take-requires : goal.take-requires
+take-requires c = off_good c.args.self.now c.requires.table _ c.requires.within _
 
 pub returns-in-Ok-clause-table : goal.returns-in-Ok-clause-table
 returns-in-Ok-clause-table c = off_at_form c.args.way c.args.time c.args.address c.args.r.now c.args.self.now c.requires.table _ c.requires.within c.requires.at _ _ c.in-Ok.ensures.channel c.in-Ok.ensures.items c.args.prefix

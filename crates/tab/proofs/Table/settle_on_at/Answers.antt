@@ -3,8 +3,8 @@ use Rattle.tab.proofs.Steps.{on_good}
 use Rattle.tab.proofs.Ways.{on_at_form, on_at_late_form, on_at_ok_state, on_at_ok_answer, on_at_err_answer, on_at_kept_state, on_at_late_state}
 use Rattle.tab.proofs.Table.settle_on_at.Goals as goal
 
-pub take-requires-clause-channel : goal.take-requires-clause-channel
-take-requires-clause-channel c = on_good c.args.self.now c.requires.table _ c.requires.within _
+pub take-requires : goal.take-requires
+take-requires c = on_good c.args.self.now c.requires.table _ c.requires.within _
 
 pub returns-in-Ok-clause-table : goal.returns-in-Ok-clause-table
 returns-in-Ok-clause-table c = on_at_form c.args.way c.args.time c.args.address c.args.r.now c.args.self.now c.requires.table _ c.requires.within c.requires.at _ _ c.in-Ok.ensures.channel c.in-Ok.ensures.items c.args.prefix

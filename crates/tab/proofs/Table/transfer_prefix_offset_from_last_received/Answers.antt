@@ -4,6 +4,7 @@ use Rattle.model.specs.Port.{reply}
 use Rattle.tab.specs.Tables.{state_of}
 use Rattle.tab.specs.Calls.{answer_of, done_in}
 use Rattle.tab.proofs.Called.{refused_table, refused_answer, in_form, granted_table, granted_answer}
+use Rattle.tab.proofs.Fitting.{code-says, call-fits, transfer-fits}
 use Rattle.tab.proofs.Table.transfer_prefix_offset_from_last_received.Goals as goal
 
 pub returns-then-not-is_well_formed-clause-table : goal.returns-then-not-is_well_formed-clause-table
@@ -22,3 +23,9 @@ returns-clause-table c = granted_table Calls.transfer_prefix_offset _ _ c.is_wel
 pub returns-clause-answer : goal.returns-clause-answer
 unfolding reply answer_of
 returns-clause-answer c = granted_answer Calls.transfer_prefix_offset _ _ c.is_well_formed.ensures.test c.if-not-is_well_formed.false done_in _ refl
+
+pub returns-then-not-is_well_formed-clause-code : goal.returns-then-not-is_well_formed-clause-code
+returns-then-not-is_well_formed-clause-code c = code-says done_in _ _ (returns-then-not-is_well_formed-clause-answer c) (call-fits done_in _ refl transfer-fits _)
+
+pub returns-clause-code : goal.returns-clause-code
+returns-clause-code c = code-says done_in _ _ (returns-clause-answer c) (call-fits done_in _ refl transfer-fits _)

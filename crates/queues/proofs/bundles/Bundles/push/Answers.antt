@@ -1,6 +1,6 @@
-use Rattle.std.proofs.Common.{arith, inl, inr}
+use Rattle.std.proofs.Common.{arith, inl, inr, sym, ◌∙◌}
 use Rattle.list.proofs.Edits.{on_err}
-use Rattle.queues.proofs.Cuts.{len_is, total_is, pushed, pushed_items, as_many, handles_many}
+use Rattle.queues.proofs.Cuts.{len_is, total_is, room_has, pushed, pushed_items, as_many, handles_many}
 use Rattle.queues.proofs.bundles.Bundles.push.Goals as goal
 
 pub returns-in_err-add_handles-clause-full : goal.returns-in_err-add_handles-clause-full
@@ -24,3 +24,19 @@ pub returns-clause-items : goal.returns-clause-items
 returns-clause-items c =
     pushed_items c.args.self.now _ _ _ _ _ _ c.requires (rw c.requires.lengths.size at c.push.ensures.list) (rw c.requires.handles.size at c.add_handles.ensures.list)
     c.in_ok-push.ensures.items c.in_ok-add_handles.ensures.items (handles_many c.args.packets.now)
+
+pub returns-in_err-add_handles-clause-bundles : goal.returns-in_err-add_handles-clause-bundles
+returns-in_err-add_handles-clause-bundles c =
+    absurd (omega (arith, room_has c.args.self.now c.requires _ (sym c.has_room.ensures ∙ c.if-not-has_room.false), c.requires.handles.size, c.in_err-add_handles.ensures.full))
+
+pub returns-in_err-add_handles-clause-unchanged : goal.returns-in_err-add_handles-clause-unchanged
+returns-in_err-add_handles-clause-unchanged c =
+    absurd (omega (arith, room_has c.args.self.now c.requires _ (sym c.has_room.ensures ∙ c.if-not-has_room.false), c.requires.handles.size, c.in_err-add_handles.ensures.full))
+
+pub returns-in_err-push-clause-bundles : goal.returns-in_err-push-clause-bundles
+returns-in_err-push-clause-bundles c =
+    absurd (omega (arith, room_has c.args.self.now c.requires _ (sym c.has_room.ensures ∙ c.if-not-has_room.false), c.requires.lengths.size, c.in_err-push.ensures.full))
+
+pub returns-in_err-push-clause-unchanged : goal.returns-in_err-push-clause-unchanged
+returns-in_err-push-clause-unchanged c =
+    absurd (omega (arith, room_has c.args.self.now c.requires _ (sym c.has_room.ensures ∙ c.if-not-has_room.false), c.requires.lengths.size, c.in_err-push.ensures.full))

@@ -1,4 +1,4 @@
--- The bundle that is next fits the list that a scene lends. Assumes nothing.
+-- The bundle that is next fits a list of 64 places. Assumes nothing.
 use Rattle.std.proofs.Common.{ℕ, ◌≤◌, List, [], ◌∷◌, length, arith}
 use Rattle.list.specs.Find.{joined}
 use Rattle.list.proofs.Joined.{length-joined-front}
