@@ -1,5 +1,5 @@
 -- A packet off the reliable path, case by case: what the relay makes of the model's outcome.
-use Rattle.std.proofs.Common.{◌≡◌, ℕ, ◌+◌, ◌≤◌, ◌<◌, ◌⊎◌, inl, inr, Bool, true, false, List, [], ◌∷◌, ◌++◌, length, set, replicate, refl, arith, ap, sym, subst, ◌∙◌, length-append, length-set, eq-eqb, ne_eqb, leb}
+use Rattle.std.proofs.Common.{◌≡◌, ℕ, ◌+◌, ◌≤◌, ◌<◌, ◌⊎◌, inl, inr, Bool, true, false, List, [], ◌∷◌, ◌++◌, length, set, replicate, refl, arith, ap, sym, subst, ◌∙◌, length-append, length-set, eq-eqb, ne_eqb}
 use Rattle.std.specs.Prelude.{Result, Ok, Err, ⊤, IsErrAnd}
 use Rattle.std.specs.declared.option.Option.{Option}
 use Rattle.std.specs.declared.option.Option.TheVariants.{None, Some}
@@ -12,7 +12,7 @@ use Rattle.list.proofs.Firsts.{remove_is}
 use Rattle.list.proofs.Joined.{joined-one}
 use Rattle.list.proofs.Positions.{stands, none_stands}
 use Rattle.list.proofs.Find.{find_absent}
-use Rattle.list.proofs.Tests.{all_b-one, and_6}
+use Rattle.list.proofs.Tests.{all_b-one}
 use Rattle.seq.specs.Num.{dist}
 use Rattle.packet.specs.declared.Packet.{Packet}
 use Rattle.packet.specs.declared.Refusal.TheVariants.{BeyondGroup, OverLimit}
@@ -23,19 +23,19 @@ use Rattle.model.specs.Group.{Stored, done, beyond, present, create, stale, is_b
 use Rattle.model.specs.Room.{fits_group, fits_data}
 use Rattle.queues.specs.Places.{no_group}
 use Rattle.chan.specs.declared.OffData.{OffData}
-use Rattle.chan.specs.Channels.{data_of, IsOffData}
+use Rattle.chan.specs.Channels.{data_of}
 use Rattle.chan.specs.Settled.{within, settled_data}
-use Rattle.chan.specs.Adding.{Gives, group_in, one, at, in_new}
-use Rattle.chan.proofs.Fits.{data_fits_as}
+use Rattle.chan.specs.Adding.{IsReady, Gives, group_in, one, at, in_new}
+use Rattle.chan.proofs.Fits.{ready_fits}
 use Rattle.chan.proofs.Room.{many_groups, wide_group, many_bundles, many_handles}
 
 -- ---- an outcome, granted or refused
 
 module _ (m : model.OffData) (d : OffData) where
-  pub gives_ok : (x : model.OffData) → IsOffData d → data_of d ≡ x → Gives (done x) m (Ok tt) d
+  pub gives_ok : (x : model.OffData) → IsReady d → data_of d ≡ x → Gives (done x) m (Ok tt) d
   unfolding settled_data
   gives_ok x w e =
-      let f : true ≡ fits_data x = sym (data_fits_as d x w e) in
+      let f : true ≡ fits_data x = sym (ready_fits d w) ∙ ap fits_data e in
       record { answer = ap (λ (b : Bool). (within b x m).result) f; items = e ∙ ap (λ (b : Bool). (within b x m).channel) f }
 
   pub gives_over : (x : model.OffData) (r : Result ⊤ Refusal) → fits_data x ≡ false → r ≡ Err OverLimit → data_of d ≡ m → Gives (done x) m r d
@@ -55,11 +55,6 @@ module _ (m : model.OffData) (d : OffData) where
 pub limit_is : (r : Result ⊤ Refusal) → IsErrAnd r (λ e. e ≡ OverLimit) → r ≡ Err OverLimit
 limit_is (Ok x) h = absurd h
 limit_is (Err e) h = ap Err h
-
-pub groups_fit : (m : model.OffData) → fits_data m ≡ true → all_b fits_group m.groups ≡ true
-unfolding fits_data
-groups_fit m f =
-    (and_6 (leb (length m.out) 32) (leb (length m.acks) 64) (leb (length m.groups) 4) (all_b fits_group m.groups) (leb (length m.bundles) 16) (leb (length (joined m.bundles)) 64) f).3
 
 -- lists with others in their place
 pub replaced : (m : model.OffData) (gs hs : List model.Group) (bs cs : List (List ℕ)) → gs ≡ hs → bs ≡ cs

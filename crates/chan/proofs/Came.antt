@@ -19,10 +19,9 @@ use Rattle.model.specs.Reorder.{arrive}
 use Rattle.model.specs.Record.{granted, acked_on, acked_off, queued, observed_if, reliable_of, with_reliable, reliable_in, loose_on, loose_off}
 use Rattle.model.specs.Rust as rust
 use Rattle.model.specs.Room.{fits_data, fits_off, fits_on}
-use Rattle.model.proofs.Room.{DataFits, fits_data_facts, OnFits, fits-on_facts}
+use Rattle.model.proofs.Room.{fits_data_facts, fits-on_facts}
 use Rattle.chan.specs.Settled.{Settled, kept, refused, within, settled, settled_data}
 use Rattle.chan.specs.Rules.{on_acked, off_acked}
-use Rattle.std.specs.declared.option.Option.{Option}
 use Rattle.std.specs.declared.option.Option.TheVariants.{None, Some}
 use Rattle.list.proofs.Pad.{never}
 use Rattle.list.proofs.Edits.{length_items}

@@ -4,7 +4,6 @@ use mathlib.Core.Path.{◌≡◌, refl, sym, ap, ◌∙◌}
 use mathlib.Core.Bool.{Bool, true, false, ◌&&◌}
 use mathlib.Core.List.{List, []}
 use Prim.Native.Nat.{ℕ, ◌≤◌, ◌<◌}
-use native.Mathlib.Omega.{arith}
 use borrow.Author.Tests.{le-leb, lt-leb}
 use lib.Dec.{leb}
 use lib.ListN.{length}
@@ -20,10 +19,10 @@ use Rattle.packet.specs.declared.Refusal.{Refusal}
 use Rattle.packet.specs.declared.Refusal.TheVariants.{BeyondGroup, OverLimit}
 use Rattle.model.specs.State.{Group, OffData, OffChannel, OnChannel, with_out, with_acks, off_with, on_with}
 use Rattle.model.specs.Group.{Stored, done, beyond, span, is_first, full, store, stale, stored_in, present, create, is_beyond, in_group, group_at, placed, add_in_packet}
-use Rattle.model.specs.Record.{Outcome, stored_on, stored_off}
+use Rattle.model.specs.Record.{stored_on, stored_off}
 use Rattle.model.specs.Room.{fits_group, fits_data, fits_off, fits_on}
-use Rattle.model.proofs.Room.{DataFits, OnFits}
-use Rattle.chan.specs.Settled.{Settled, kept, refused, within, settled, settled_data}
+use Rattle.model.proofs.Room.{DataFits}
+use Rattle.chan.specs.Settled.{kept, refused, within, settled, settled_data}
 
 -- what the rule makes of groups and bundles, with other lists beside them
 abbrev pub beside : List OutEntry → List ℕ → Stored → Stored

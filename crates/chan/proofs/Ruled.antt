@@ -1,28 +1,24 @@
 -- One record on its channel, by the parts that the code takes one by one: what is settled of each. Assumes nothing.
-use mathlib.Core.Path.{◌≡◌, refl, sym, ap, subst, ◌∙◌}
-use mathlib.Core.Bool.{Bool, true, false, ◌&&◌}
-use mathlib.Core.List.{List, [], ◌∷◌, ◌++◌}
+use mathlib.Core.Path.{◌≡◌, refl, sym, ap, ◌∙◌}
+use mathlib.Core.Bool.{Bool, true, false}
+use mathlib.Core.List.{List, [], ◌∷◌}
 use Prim.Native.Nat.{ℕ, ◌+◌, ◌≤◌, ◌<◌}
 use native.Mathlib.Omega.{arith}
-use borrow.Author.Tests.{le-leb, lt-leb}
-use lib.Dec.{ltb, leb, eqb}
+use lib.Dec.{ltb, eqb}
 use lib.ListN.{length, length-append}
 use Rattle.std.specs.Prelude.{Result, Ok, Err, ⊤}
-use Rattle.list.specs.Pad.{all_b}
-use Rattle.list.specs.Find.{joined}
-use Rattle.list.proofs.Pad.{never, and_left, and_right}
-use Rattle.list.proofs.Tests.{and_both, either_way}
+use Rattle.list.proofs.Pad.{never}
 use Rattle.seq.specs.Num.{sub}
 use Rattle.packet.specs.declared.Record.{Record}
 use Rattle.packet.specs.Data.{is_set, packet, version_of}
 use Rattle.packet.specs.declared.Refusal.{Refusal}
 use Rattle.packet.specs.declared.Refusal.TheVariants.{OldVersion, CumulativeOff, OverLimit}
-use Rattle.model.specs.State.{OffData, OffChannel, OnChannel, with_out, with_acks, with_bundles, with_source, off_with, on_with}
+use Rattle.model.specs.State.{OffData, OffChannel, OnChannel, with_out, with_acks, with_source, off_with, on_with}
 use Rattle.model.specs.Group.{Stored, add_in_packet, panics}
-use Rattle.model.specs.Reorder.{Reliable, reorder, regroup, arrive}
-use Rattle.model.specs.Record.{Outcome, granted, rejected, bare_run, acked_on, acked_off, queued, observed_if, reliable_of, with_reliable, run_of, reliable_in, stored_on, stored_off, loose_on, loose_off, last_given, rules_on, rules_off, current, on_record, cumulative_given, off_record}
-use Rattle.model.specs.Room.{fits_data, fits_off, fits_on}
-use Rattle.model.proofs.Room.{DataFits, fits_data_facts, fits_data_test, OnFits, fits-on_facts, fits-on_test}
+use Rattle.model.specs.Reorder.{reorder, arrive}
+use Rattle.model.specs.Record.{acked_on, acked_off, queued, observed_if, reliable_of, with_reliable, run_of, reliable_in, stored_on, stored_off, loose_on, loose_off, last_given, rules_on, rules_off, current, on_record, off_record}
+use Rattle.model.specs.Room.{fits_off, fits_on}
+use Rattle.model.proofs.Room.{DataFits, fits_data_facts, OnFits, fits-on_facts, fits-on_test}
 use Rattle.chan.specs.Settled.{Settled, kept, refused, within, settled, settled_data}
 use Rattle.chan.specs.Rules.{on_acked, off_acked, last_on_if, last_on, last_off_if, last_off}
 use Rattle.chan.proofs.Frame.{beside, added_same, added_beside, granted_too, refused_too, full_then, acks_over, stays, lifted_on, lifted_off, is_err}

@@ -1,13 +1,23 @@
 -- A packet off the reliable path, step by step.
-use Rattle.std.specs.Prelude.{◌≡◌, true, ℕ, [], ◌∷◌, ◌++◌, Result, ⊤, get_or}
+use Rattle.std.specs.Prelude.{◌≡◌, true, ℕ, [], ◌∷◌, ◌++◌, Result, ⊤, get_or, ◌≤◌, length}
 use Rattle.packet.specs.declared.Packet.{Packet}
 use Rattle.model.specs.State as model
 use Rattle.model.specs.Refusals.{Refusal}
 use Rattle.model.specs.Group.{Stored, done, present, create, stale, is_beyond, new_group, span, store, stored_in}
-use Rattle.queues.specs.Places.{no_group}
+use Rattle.queues.specs.Out.{entries}
+use Rattle.queues.specs.Acks.{numbers}
+use Rattle.queues.specs.Places.{no_group, IsGroups}
+use Rattle.queues.specs.Made.{IsBundles}
 use Rattle.chan.specs.declared.OffData.{OffData}
 use Rattle.chan.specs.Channels.{data_of}
 use Rattle.chan.specs.Settled.{settled_data}
+
+-- what the rule asks: groups and bundles in their form, and no more entries and acks than there are places
+pub record IsReady (d : OffData) : Type 0 where
+  pub out : length (entries d.out) ≤ 32
+  pub acks : length (numbers d.acks) ≤ 64
+  pub groups : IsGroups d.groups
+  pub bundles : IsBundles d.bundles
 
 -- the answer, and what the lists then hold, are what the relay makes of that outcome
 pub record Gives (outcome : Stored) (m : model.OffData) (r : Result ⊤ Refusal) (d : OffData) : Type 0 where

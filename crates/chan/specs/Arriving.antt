@@ -8,6 +8,8 @@ use Rattle.packet.specs.Data.{is_set}
 use Rattle.model.specs.State as model
 use Rattle.model.specs.Reorder.{Reliable, move}
 use Rattle.model.specs.Record.{reliable_of}
+use Rattle.queues.specs.Made.{IsBundles}
+use Rattle.queues.specs.Packets.{IsWaiting}
 use Rattle.chan.specs.declared.OffData.{OffData}
 use Rattle.chan.specs.declared.OnChannel.{OnChannel}
 use Rattle.chan.specs.Channels.{data_of, on_of}
@@ -48,6 +50,16 @@ joined_with m k =
 -- the expected packet has come
 abbrev pub advanced : Reliable → Packet → Reliable
 advanced r p = move (add r.expected 1) r.buffer (r.queue ++ p ∷ []) r.bundles
+
+-- its lists are in their form
+pub record IsSide (c : OnChannel) : Type 0 where
+  pub buffer : IsWaiting c.buffer
+  pub queue : IsWaiting c.queue
+  pub bundles : IsBundles c.off.bundles
+
+-- a channel with the reliable side of the first: its expected number, buffer, queue and bundles
+abbrev pub with_side : OnChannel → OnChannel → OnChannel
+with_side s c = record c { expected = s.expected; buffer = s.buffer; queue = s.queue; off = record c.off { bundles = s.off.bundles } }
 
 -- the limits of this side: "32 buffered, 32 contiguous waiting, 16 bundles holding 64 handles in all"
 abbrev pub within : Reliable → Bool

@@ -1,5 +1,4 @@
 -- The channel of the model that a struct stands for, and when the struct is in its form.
-use Rattle.std.specs.Prelude.{◌≡◌, ℕ}
 use Rattle.model.specs.State as model
 use Rattle.queues.specs.Out as out
 use Rattle.queues.specs.Acks as acks

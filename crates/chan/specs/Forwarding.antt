@@ -1,5 +1,5 @@
 -- The acks of a forwarded packet, on the ack queue.
-use Rattle.std.specs.Prelude.{Bool, ℕ}
+use Rattle.std.specs.Prelude.{Bool}
 use Rattle.packet.specs.declared.Record.{Record}
 use Rattle.packet.specs.Data.{single_acks}
 use Rattle.model.specs.State.{OffData, with_acks}

@@ -1,5 +1,5 @@
 -- A record on its channel, in the parts that the code takes one by one.
-use Rattle.std.specs.Prelude.{Bool, true, false, Result, Ok, Err, ⊤, cond, ℕ, eqb}
+use Rattle.std.specs.Prelude.{Bool, true, false, Result, Ok, Err, ⊤, ℕ, eqb}
 use Rattle.seq.specs.Num.{sub}
 use Rattle.packet.specs.declared.Record.{Record}
 use Rattle.packet.specs.Data.{is_set}

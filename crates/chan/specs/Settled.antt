@@ -2,7 +2,7 @@
 -- that leaves, or refused with the channel as it was: a fragment beyond its group, or a state that would be over a limit.
 use Rattle.std.specs.Prelude.{Bool, true, false, Result, Ok, Err, ⊤}
 use Rattle.model.specs.State as model
-use Rattle.model.specs.Room.{fits_data, fits_off, fits_on}
+use Rattle.model.specs.Room.{fits_data}
 use Rattle.model.specs.Refusals.{Refusal}
 use Rattle.packet.specs.declared.Refusal.TheVariants.{BeyondGroup, OverLimit}
 use Rattle.model.specs.Record.{Outcome, granted, rejected, far_fragment, bare_run}

@@ -1,12 +1,14 @@
 //! A packet off the reliable path: a bundle of one, or a fragment of a group (Rust: `add_in_packet`).
 
-ghost use Rattle.std.specs.Prelude.{◌≡◌, ◌<◌, true, length, OnErr};
+ghost use Rattle.std.specs.Prelude.{◌≡◌, ◌<◌, ◌≤◌, true, length, OnErr};
 ghost use Rattle.std.specs.declared.option.Option.TheVariants.{Some};
 ghost use Rattle.list.specs.Find.{position};
 ghost use Rattle.model.specs.Group.{add_in_packet, is_first, store, full};
+ghost use Rattle.queues.specs.Places.{IsGroups};
+ghost use Rattle.queues.specs.Made.{IsBundles};
 ghost use Rattle.chan.specs.Channels.{data_of, IsOffData};
 ghost use Rattle.chan.specs.Settled.{settled_data};
-ghost use Rattle.chan.specs.Adding.{Gives, group_in, one, at, filling, in_new};
+ghost use Rattle.chan.specs.Adding.{IsReady, Gives, group_in, one, at, filling, in_new};
 
 use crate::OffData;
 use packet::{Packet, Refusal};
@@ -19,8 +21,9 @@ const MAX_FRAGMENTS: u32 = 32;
 impl OffData {
     /// Makes a bundle of one.
     fn add_one(&mut self, handle: u32) -> Result<(), Refusal>
-        requires { IsOffData self.old }
-        ensures data { IsOffData self.new }
+        requires ready { IsReady self.old }
+        ensures ready { IsReady self.new }
+        ensures others { self.new ≡ record self.old { groups = self.new.groups; bundles = self.new.bundles } }
         ensures unchanged { OnErr result (self.new ≡ self.old) }
         ensures given { Gives (one handle (data_of self.old)) (data_of self.old) result self.new }
     {
@@ -30,11 +33,12 @@ impl OffData {
 
     /// Stores the fragment that fills the group at `g`: the group goes, and is a bundle.
     fn complete(&mut self, g: usize, place: usize, handle: u32, time: u64) -> Result<(), Refusal>
-        requires data { IsOffData self.old }
+        requires ready { IsReady self.old }
         requires there { position (is_first (group_in g (data_of self.old)).first) (data_of self.old).groups ≡ Some g }
         requires place { place < length (group_in g (data_of self.old)).places }
         requires full { full (store place handle time (group_in g (data_of self.old))) ≡ true }
-        ensures data { IsOffData self.new }
+        ensures ready { IsReady self.new }
+        ensures others { self.new ≡ record self.old { groups = self.new.groups; bundles = self.new.bundles } }
         ensures unchanged { OnErr result (self.new ≡ self.old) }
         ensures given { Gives (filling g place handle time (data_of self.old)) (data_of self.old) result self.new }
     {
@@ -47,9 +51,10 @@ impl OffData {
 
     /// A fragment whose group stands at `g`.
     fn add_at(&mut self, g: usize, place: usize, handle: u32, time: u64) -> Result<(), Refusal>
-        requires data { IsOffData self.old }
+        requires ready { IsReady self.old }
         requires there { position (is_first (group_in g (data_of self.old)).first) (data_of self.old).groups ≡ Some g }
-        ensures data { IsOffData self.new }
+        ensures ready { IsReady self.new }
+        ensures others { self.new ≡ record self.old { groups = self.new.groups; bundles = self.new.bundles } }
         ensures unchanged { OnErr result (self.new ≡ self.old) }
         ensures given { Gives (at g place handle time (data_of self.old)) (data_of self.old) result self.new }
     {
@@ -69,8 +74,9 @@ impl OffData {
 
     /// A fragment whose group is new; it makes no bundle, even where it is the only one of its range.
     fn add_new(&mut self, p: Packet, place: usize, time: u64) -> Result<(), Refusal>
-        requires { IsOffData self.old }
-        ensures data { IsOffData self.new }
+        requires ready { IsReady self.old }
+        ensures ready { IsReady self.new }
+        ensures others { self.new ≡ record self.old { groups = self.new.groups; bundles = self.new.bundles } }
         ensures unchanged { OnErr result (self.new ≡ self.old) }
         ensures given { Gives (in_new p place time (data_of self.old)) (data_of self.old) result self.new }
     {
@@ -90,14 +96,22 @@ impl OffData {
     /// Adds a packet that came off the reliable path at `time`, in milliseconds: without a range it is a bundle of one, with one a
     /// fragment of the group that begins at the range's first number. A fragment that comes too long after its group's last is dropped;
     /// one that fills its group makes a bundle of it. `BeyondGroup` says that its place is none of the group's, `OverLimit` that the lists
-    /// would be beyond their limits; either way nothing changes.
+    /// would be beyond their limits; either way nothing changes. The out list and the ack queue may be any, and stay as they are.
     pub fn add_in_packet(&mut self, time: u64, p: Packet) -> Result<(), Refusal>
-        requires { IsOffData self.old }
-        ensures data { IsOffData self.new }
+        requires groups { IsGroups self.old.groups }
+        requires bundles { IsBundles self.old.bundles }
+        ensures groups { IsGroups self.new.groups }
+        ensures bundles { IsBundles self.new.bundles }
+        ensures others { self.new ≡ record self.old { groups = self.new.groups; bundles = self.new.bundles } }
+        ensures data { IsOffData self.old → IsOffData self.new }
         ensures unchanged { OnErr result (self.new ≡ self.old) }
+        ensures beside { (length (data_of self.old).out ≤ 32) × (length (data_of self.old).acks ≤ 64) }
         ensures answer { result ≡ (settled_data (add_in_packet time p (data_of self.old)) (data_of self.old)).result }
         ensures items { data_of self.new ≡ (settled_data (add_in_packet time p (data_of self.old)) (data_of self.old)).channel }
     {
+        // Room is judged on groups and bundles alone: of the other lists there are never more items than places.
+        prove!(self.out.as_slice().len() <= 32);
+        prove!(self.acks.as_slice().len() <= 64);
         if p.ranged != 1 {
             return self.add_one(p.handle);
         }

@@ -6,7 +6,7 @@ ghost use Rattle.model.specs.Record.{with_reliable};
 ghost use Rattle.model.specs.Room.{fits_on};
 ghost use Rattle.queues.specs.Packets.{IsWaiting, run_of, IsRun};
 ghost use Rattle.chan.specs.Channels.{on_of, IsOnChannel};
-ghost use Rattle.chan.specs.Arriving.{run, reliable, advanced, kept_of, within, comes_alone, Alone};
+ghost use Rattle.chan.specs.Arriving.{run, reliable, advanced, kept_of, within, IsSide, with_side, comes_alone, Alone};
 
 use crate::{OnChannel, grouping};
 use list::Full;
@@ -91,9 +91,10 @@ impl OnChannel {
     /// The reorder rule, and then bundles from the queue, also where the packet was dropped or buffered. After an `Err` the channel is in
     /// no state to go on with: work on a copy.
     fn arrive(&mut self, p: Packet) -> Result<(), Full>
-        requires { IsOnChannel self.old }
+        requires { IsSide self.old }
         ensures full { OnErr result (within (arrive (reliable self.old) p) ≡ false) }
-        ensures channel { OnOk result (IsOnChannel self.new) }
+        ensures side { OnOk result (IsSide self.new) }
+        ensures others { OnOk result (self.new ≡ with_side self.new self.old) }
         ensures items { OnOk result (on_of self.new ≡ with_reliable (arrive (reliable self.old) p) (on_of self.old)) }
     {
         let run = self.reorder(p)?;
@@ -113,11 +114,12 @@ impl OnChannel {
 
     /// A packet that comes alone is a bundle of one at once, with no way through the queue.
     fn add_alone(&mut self, p: Packet) -> Result<(), Full>
-        requires channel { IsOnChannel self.old }
+        requires side { IsSide self.old }
         requires alone { Alone (reliable self.old) p }
         ensures full { OnErr result (within (arrive (reliable self.old) p) ≡ false) }
         ensures unchanged { OnErr result (self.new ≡ self.old) }
-        ensures channel { IsOnChannel self.new }
+        ensures side { IsSide self.new }
+        ensures others { self.new ≡ with_side self.new self.old }
         ensures items { OnOk result (on_of self.new ≡ with_reliable (arrive (reliable self.old) p) (on_of self.old)) }
     {
         self.off.bundles.push_one(p.handle)?;
@@ -127,10 +129,11 @@ impl OnChannel {
 
     /// Any packet, by the queue: on a copy of the channel, since a limit may be met late.
     fn add_by_queue(&mut self, p: Packet) -> Result<(), Full>
-        requires { IsOnChannel self.old }
+        requires { IsSide self.old }
         ensures full { OnErr result (within (arrive (reliable self.old) p) ≡ false) }
         ensures unchanged { OnErr result (self.new ≡ self.old) }
-        ensures channel { IsOnChannel self.new }
+        ensures side { IsSide self.new }
+        ensures others { self.new ≡ with_side self.new self.old }
         ensures items { OnOk result (on_of self.new ≡ with_reliable (arrive (reliable self.old) p) (on_of self.old)) }
     {
         let mut c = *self;
@@ -139,13 +142,18 @@ impl OnChannel {
         Ok(())
     }
 
-    /// A reliable packet arrives. `Full` says that the channel that it would leave is beyond its limits; the channel stays as it was.
+    /// A reliable packet arrives. `Full` says that the channel that it would leave is beyond its limits, by its buffer, queue or bundles; the
+    /// channel stays as it was. The out list, the ack queue and the groups may be any, and stay as they are.
     pub fn add_in_reliable_packet(&mut self, p: Packet) -> Result<(), Full>
-        requires { IsOnChannel self.old }
+        requires side { IsSide self.old }
+        ensures over { OnErr result (within (arrive (reliable self.old) p) ≡ false) }
+        ensures within { OnOk result (within (arrive (reliable self.old) p) ≡ true) }
         ensures full { OnErr result (fits_on (with_reliable (arrive (reliable self.old) p) (on_of self.old)) ≡ false) }
-        ensures fits { OnOk result (fits_on (with_reliable (arrive (reliable self.old) p) (on_of self.old)) ≡ true) }
+        ensures fits { IsOnChannel self.old → OnOk result (fits_on (with_reliable (arrive (reliable self.old) p) (on_of self.old)) ≡ true) }
         ensures unchanged { OnErr result (self.new ≡ self.old) }
-        ensures channel { IsOnChannel self.new }
+        ensures side { IsSide self.new }
+        ensures others { self.new ≡ with_side self.new self.old }
+        ensures channel { IsOnChannel self.old → IsOnChannel self.new }
         ensures items { OnOk result (on_of self.new ≡ with_reliable (arrive (reliable self.old) p) (on_of self.old)) }
     {
         if self.comes_alone(p) {

@@ -39,12 +39,13 @@ fn join_out(out: &mut OutList, time: u64, first: Seq, handles: &[u32]) -> Result
 }
 
 impl OffChannel {
-    /// Adds the packets of a reliable send to the out list, numbered from `first` on.
+    /// Adds the packets of a reliable send to the out list, numbered from `first` on; the other lists may be any, and stay as they are.
     pub fn send(&mut self, time: u64, first: Seq, handles: &[u32]) -> Result<(), Full>
         requires { IsOutList self.old.off.out }
         ensures full { OnErr result (32 < length (off_of self.old).off.out + length handles.now) }
         ensures list { IsOutList self.new.off.out }
         ensures channel { IsOffChannel self.old → IsOffChannel self.new }
+        ensures others { self.new ≡ record self.old { off = record self.old.off { out = self.new.off.out } } }
         ensures items { OnOk result (off_of self.new ≡ joined_off time first.0 handles.now (off_of self.old)) }
         ensures unchanged { OnErr result (self.new ≡ self.old) }
     {
@@ -77,7 +78,7 @@ impl OffChannel {
 
 impl OnChannel {
     /// Adds the packets of a reliable send to the out list, numbered from the channel's own source, which moves on; answers the first
-    /// number.
+    /// number. The other lists may be any, and stay as they are.
     pub fn send(&mut self, time: u64, handles: &[u32]) -> Result<Seq, Full>
         requires list { IsOutList self.old.off.out }
         requires few { length handles.now ≤ 16 }
@@ -85,6 +86,7 @@ impl OnChannel {
         ensures first { IfOk result (λ n. n.0 ≡ self.old.source.next) }
         ensures list { IsOutList self.new.off.out }
         ensures channel { IsOnChannel self.old → IsOnChannel self.new }
+        ensures others { self.new ≡ record self.old { source = self.new.source; off = record self.old.off { out = self.new.off.out } } }
         ensures items { OnOk result (on_of self.new ≡ sent_on time handles.now (on_of self.old)) }
         ensures unchanged { OnErr result (self.new ≡ self.old) }
     {

@@ -53,7 +53,8 @@ impl OnChannel {
         self.version != 0
     }
 
-    fn has_numbers(&self) -> bool
+    /// Whether the version fits the index, and the expected number and the source's next are sequence numbers, of 28 bits. For any channel.
+    pub fn has_numbers(&self) -> bool
         ensures { IsTrue result ↔ AreGoodNumbers self.now }
     {
         self.has_key() && self.expected <= LAST && self.source.next <= LAST

@@ -13,7 +13,7 @@ use Rattle.seq.specs.NumLaws.{cmp-same, cmp_less, cmp_greater}
 use Rattle.packet.specs.declared.Packet.{Packet}
 use Rattle.packet.specs.Data.{Range}
 use Rattle.model.specs.Group.{group_n, group}
-use Rattle.model.specs.Reorder.{Reliable, fresh, insert_buffered, move, place, reorder, regroup, arrive}
+use Rattle.model.specs.Reorder.{Reliable, fresh, insert_buffered, move, reorder, regroup, arrive}
 use Rattle.order.specs.Sent.{Arrival, sent_as, received, copy, above, missing, Near, firsts, sent_before}
 use Rattle.order.proofs.Stable.{stable}
 use Rattle.order.proofs.Copies.{copy_old, copy-new, copy_other, Gap, gap_unique, missing_gap}
@@ -243,7 +243,10 @@ settle s top h c x = let e : x.0 ≡ missing h = gap_unique (copy h) x.0 (missin
 pub invariant : (s : ℕ → Range) (top : ℕ) (h : List Arrival) → above h ≤ top → Near h → Inv s top (copy h) (received s h) (missing h)
 unfolding received above
 invariant s top [] t w = settle s top [] fresh (0, start s top)
-invariant s top (a ∷ h) t w = settle s top (a ∷ h) (arrive (received s h) (sent_as s a)) (one s top h a (received s h) (missing h) (invariant s top h (omega arith) w.0) (omega arith) w.1 w.2)
+invariant s top (a ∷ h) t w =
+    let ahead = w.1 in
+    let behind = w.2 in
+    settle s top (a ∷ h) (arrive (received s h) (sent_as s a)) (one s top h a (received s h) (missing h) (invariant s top h (omega arith) w.0) (omega arith) (omega arith) (omega arith))
 
 -- Demand 3 for one channel. In any arrival order, repeats included, the bundles made so far are exactly those that the grouping
 -- makes of all packets sent before the missing one, each taken once, by its first copy, in sending order.

@@ -1,12 +1,15 @@
 -- What stands beside it: the same at every moment of a longer history, what waits, and what the words of the statement mean.
-use Rattle.std.specs.Prelude.{◌≡◌, Bool, true, leb, List, [], ◌∷◌, ◌++◌, map, reverse, length, get_or, replicate, ℕ, suc, ◌+◌, ◌≤◌, ◌<◌}
+use Rattle.std.specs.Prelude.{◌≡◌, Bool, true, leb, List, [], ◌∷◌, ◌++◌, map, reverse, length, get_or, replicate, All, ℕ, suc, ◌+◌, ◌≤◌, ◌<◌}
 use Rattle.std.specs.declared.option.Option.TheVariants.{None, Some}
+use Rattle.std.specs.declared.cmp.Ordering.TheVariants.{Less, Equal, Greater}
 use Rattle.list.specs.Pad.{all_b}
-use Rattle.seq.specs.Num.{wrap}
+use Rattle.seq.specs.Num.{cmp, wrap}
 use Rattle.packet.specs.declared.Key.{Key}
+use Rattle.packet.specs.declared.Packet.{Packet}
 use Rattle.packet.specs.Data.{Range, packet, key_made}
 use Rattle.model.specs.State.{State, new}
 use Rattle.model.specs.Group.{group}
+use Rattle.model.specs.Reorder.{insert_buffered}
 use Rattle.model.specs.Calls.{Call, next_bundle}
 use Rattle.model.specs.History.{run}
 use Rattle.order.specs.Sent.{Arrival, sent_as, received, copy, missing, Near, firsts, sent_before}
@@ -55,3 +58,7 @@ pub record Meant : Type 0 where
   pub sent_length : (h : List Arrival) → length (firsts (copy h) 0 (missing h)) ≡ missing h
   pub sent_at : (h : List Arrival) (i x : ℕ) (d : Arrival) → i < missing h → copy h i ≡ Some x → get_or (firsts (copy h) 0 (missing h)) i d ≡ record { place = i; handle = x }
   pub buffer_climbs : (s : ℕ → Range) (h : List Arrival) → Near h → (l : List Arrival) × ((received s h).buffer ≡ map (sent_as s) l) × Climbs (suc (missing h)) (missing h + 0x800_0000) l
+  -- a packet past the missing one is buffered between those that it is Greater than and those that it is Less than; beside one that it is
+  -- Equal to it is dropped
+  pub inserted_between : (p : Packet) (xs ys : List Packet) → All (λ b. cmp p.number b.number ≡ Greater) xs → All (λ b. cmp p.number b.number ≡ Less) ys → insert_buffered p (xs ++ ys) ≡ xs ++ (p ∷ ys)
+  pub dropped_beside : (p b : Packet) (xs ys : List Packet) → cmp p.number b.number ≡ Equal → All (λ b. cmp p.number b.number ≡ Less) ys → insert_buffered p (xs ++ (b ∷ ys)) ≡ xs ++ (b ∷ ys)

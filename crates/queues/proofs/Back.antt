@@ -1,5 +1,5 @@
 -- The value that stands for a list within its limit: it is in its form, and stands for that list.
-use Rattle.std.proofs.Common.{◌≡◌, ℕ, zero, suc, ◌+◌, ◌-◌, ◌≤◌, List, [], ◌∷◌, ◌++◌, length, take, drop, map, replicate, refl, ap, sym, arith, rules, ◌∙◌, Bool, true, zero-le}
+use Rattle.std.proofs.Common.{◌≡◌, ℕ, zero, suc, ◌-◌, ◌≤◌, List, [], ◌∷◌, ◌++◌, length, take, drop, map, replicate, refl, ap, sym, arith, rules, ◌∙◌, true}
 use native.Mathlib.Nat.{le_of_suc-le-suc, not-suc-le-zero}
 use borrow.Author.Tests.{leb-true}
 use lib.ListN.{length-map}
@@ -13,13 +13,11 @@ use Rattle.list.specs.Find.{joined, sum}
 use Rattle.list.specs.Lists.{IsList}
 use Rattle.list.proofs.Pad.{length-pad, pad-nil, take-pad, and_left, and_right}
 use Rattle.list.proofs.Sums.{sum_lengths}
-use Rattle.list.proofs.Copies.{pad_over}
 use Rattle.packet.specs.declared.OutEntry.{OutEntry}
 use Rattle.packet.specs.declared.Packet.{Packet}
 use Rattle.packet.specs.Data.{no_entry, no_packet}
 use Rattle.model.specs.State.{Group}
 use Rattle.model.specs.Room.{fits_group}
-use Rattle.queues.specs.declared.bundles.Bundles.{Bundles}
 use Rattle.queues.specs.declared.groups.Fragments.{Fragments}
 use Rattle.queues.specs.Out as out
 use Rattle.queues.specs.Acks as acks

@@ -1,5 +1,5 @@
 -- Bundles as lists cut from one list of handles.
-use Rattle.std.proofs.Common.{◌≡◌, ◌&&◌, ltb, Bool, true, false, leb, ◌-◌, ℕ, suc, ◌+◌, ◌≤◌, ◌<◌, List, [], ◌∷◌, ◌++◌, length, take, drop, refl, arith, ap, sym, ◌∙◌, length-append, length-drop, length-take}
+use Rattle.std.proofs.Common.{◌≡◌, ltb, Bool, true, false, leb, ◌-◌, ℕ, suc, ◌+◌, ◌≤◌, ◌<◌, List, [], ◌∷◌, ◌++◌, length, take, drop, refl, arith, ap, sym, ◌∙◌, length-append, length-drop, length-take}
 use lib.Seq.{take-append-le, drop-append-le, take-add, take_all}
 use Rattle.list.specs.Find.{joined, sum}
 use Rattle.std.proofs.lemmas.List.{length-map}

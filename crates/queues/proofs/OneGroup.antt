@@ -9,7 +9,7 @@ use native.Mathlib.Nat.{le_of_suc-le-suc, not-suc-le-zero}
 use native.Mathlib.Omega.{arith}
 use borrow.Author.Tests.{eqb-true, eq-eqb}
 use lib.Dec.{eqb}
-use lib.ListN.{length, take, drop, get_or, set, replicate, length-set, length-map, length-replicate, get_or-map, length-take, drop_of_length-le}
+use lib.ListN.{length, take, drop, get_or, set, replicate, length-set, length-map, length-replicate, get_or-map, drop_of_length-le}
 use Rattle.list.proofs.Positions.{drop_here}
 use Rattle.list.specs.Pad.{pad}
 use Rattle.list.specs.Find.{has}

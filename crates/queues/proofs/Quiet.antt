@@ -10,9 +10,8 @@ use Rattle.list.proofs.Maps.{map-kept}
 use Rattle.list.proofs.Copies.{written_none}
 use borrow.Author.Tests.{not-true}
 use Rattle.packet.specs.declared.OutEntry.{OutEntry}
-use Rattle.packet.specs.declared.Resend.{Resend}
 use Rattle.model.specs.Calls.{flat}
-use Rattle.model.specs.Rust.{young, due, mark, mark_if, row}
+use Rattle.model.specs.Rust.{young, due, mark, mark_if}
 use Rattle.queues.specs.declared.out_list.Clock.{Clock}
 use Rattle.queues.specs.Out.{calm, due_entries, due_rows, resent}
 

@@ -47,11 +47,12 @@ impl AckQueue {
         }
     }
 
+    /// The numbers. Past a count of 64 they are the numbers of all places.
     pub fn as_slice(&self) -> &[u32]
-        requires { IsAckQueue self.now }
-        ensures { result.now ≡ numbers self.now }
+        ensures items { result.now ≡ numbers self.now }
+        ensures few { length result.now ≤ 64 }
     {
-        &self.numbers[..self.len as usize]
+        list::used(self.len, &self.numbers)
     }
 
     /// Adds a number at the end, also one that is there.
@@ -86,7 +87,7 @@ impl AckQueue {
 
     /// Takes the first copy of the number out, the last number taking its place.
     #[tactic(auto, using(crate::proofs::Swapped::swapped_first, crate::proofs::Swapped::none_swapped, list::proofs::Firsts::first_within))]
-    fn ack(&mut self, number: u32)
+    pub fn ack(&mut self, number: u32)
         requires { IsAckQueue self.old }
         ensures list { IsAckQueue self.new }
         ensures items { numbers self.new ≡ swap_remove_first 0 (is number) (numbers self.old) }

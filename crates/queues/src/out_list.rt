@@ -154,9 +154,10 @@ impl OutList {
         }
     }
 
-    /// The entries, of any count.
+    /// The entries. Past a count of 32 they are the entries of all places.
     pub fn as_slice(&self) -> &[OutEntry]
-        ensures { result.now ≡ entries self.now }
+        ensures items { result.now ≡ entries self.now }
+        ensures few { length result.now ≤ 32 }
     {
         list::used(self.len, &self.entries)
     }

@@ -1,8 +1,8 @@
 -- Channels that are sent again one after the other: those behind are as they were, and the rows so far stand in the lent list.
 use Rattle.std.proofs.Common.{◌≡◌, ℕ, zero, suc, ◌+◌, ◌*◌, ◌≤◌, ◌<◌, arith, add-one, List, [], ◌∷◌, ◌++◌, map, length, take, drop, get_or, set, length-append, refl, ap, sym, ◌∙◌}
-use Rattle.std.proofs.lemmas.List.{append-nil, take_more, map-append}
-use lib.Seq.{take_all}
-use lib.ListN.{drop_of_length-le, length-take}
+use Rattle.std.proofs.lemmas.List.{append-nil, take_more, take_at, length-map, map-append, map-set}
+use Rattle.std.proofs.Math.ListN.{get_or-map}
+use lib.ListN.{drop_of_length-le}
 use Rattle.list.specs.Find.{joined, written_at}
 use Rattle.list.proofs.Joined.{joined-append, joined-part}
 use Rattle.list.proofs.Copies.{written_after, length-written, written_none}
@@ -31,7 +31,7 @@ module _ {Y : Type 0} (f : Y → Y) where
   abbrev pub part : ℕ → List Y → List Y
   part i ys = map f (take i ys) ++ drop i ys
 
-  pub part_get : (ys : List Y) (i : ℕ) (e : Y) → get_or (part i ys) i e ≡ get_or ys i e
+  part_get : (ys : List Y) (i : ℕ) (e : Y) → get_or (part i ys) i e ≡ get_or ys i e
   part_get [] zero e = refl
   part_get [] (suc i) e = refl
   part_get (y ∷ ys) zero e = refl
@@ -42,11 +42,25 @@ module _ {Y : Type 0} (f : Y → Y) where
   part_suc (y ∷ ys) zero e lt = refl
   part_suc (y ∷ ys) (suc i) e lt = ap (λ (l : List Y). f y ∷ l) (part_suc ys i e (omega arith))
 
-  pub part_set : (ys : List Y) (i : ℕ) (e : Y) → i < length ys → set (part i ys) i (f (get_or ys i e)) ≡ part (i + 1) ys
+  part_set : (ys : List Y) (i : ℕ) (e : Y) → i < length ys → set (part i ys) i (f (get_or ys i e)) ≡ part (i + 1) ys
   part_set ys i e lt = part_suc ys i e lt ∙ ap (λ (n : ℕ). part n ys) (sym (add-one i))
 
-  pub part_end : (ys : List Y) (i : ℕ) → length ys ≤ i → part i ys ≡ map f ys
-  part_end ys i le = rw (drop_of_length-le ys {i = i} le, take_all i ys le) (append-nil (map f ys))
+-- structs that each stand for an item: the items of the first i are changed
+module _ {X Y : Type 0} (view : X → Y) (f : Y → Y) (old new : List X) (i : ℕ) (items : map view new ≡ part f i (map view old)) where
+  pub struct_seen : (d : X) → view (get_or new i d) ≡ get_or (map view old) i (view d)
+  struct_seen d = sym (get_or-map view new i d) ∙ ap (λ (l : List Y). get_or l i (view d)) items ∙ part_get f (map view old) i (view d)
+
+  pub struct_set : (d c : X) → i < length (map view old) → view c ≡ f (view (get_or new i d)) → map view (set new i c) ≡ part f (i + 1) (map view old)
+  struct_set d c lt is =
+      map-set view new i c
+      ∙ (λ j. set (items j) i ((is ∙ ap f (struct_seen d)) j))
+      ∙ part_set f (map view old) i (view d) lt
+
+-- structs that stand for the changed items, in front of an array in place of the n in use
+pub front_changed : {X Y : Type 0} (view : X → Y) (f : Y → Y) (n : ℕ) (old new rest : List X) → length old ≡ n → map view new ≡ map f (map view old) → map view (take n (new ++ rest)) ≡ map f (map view old)
+front_changed view f n old new rest size items =
+    let long : length new ≡ n = omega (arith, size, ap length items, length-map new view, length-map (map view old) f, length-map old view) in
+    ap (map view) (take_at new rest n long) ∙ items
 
 module _ {Y : Type 0} (g : Y → List Resend) where
   -- the rows of the first i
@@ -91,12 +105,6 @@ module _ {Y : Type 0} (g : Y → List Resend) where
               ∙ ap (λ (w : List ℕ). written_at at w old) (sym all);
           place = omega (arith, to, s.place, ap length one, ap length all, length-append (rows_to i ys) (flat (g (get_or ys i e))));
         }
-
-  pub listed_rows : (at : ℕ) (old : List ℕ) (ys : List Y) (i : ℕ) (new : List ℕ) (next : ℕ) → length ys ≤ i → Listed at old ys i new next → new ≡ written_at at (flat (joined (map g ys))) old
-  listed_rows at old ys i new next le s = s.rows ∙ ap (λ (l : List Y). written_at at (flat (joined (map g l))) old) (take_all i ys le)
-
-  pub listed_place : (at : ℕ) (old : List ℕ) (ys : List Y) (i : ℕ) (new : List ℕ) (next : ℕ) → length ys ≤ i → Listed at old ys i new next → next ≡ at + length (flat (joined (map g ys)))
-  listed_place at old ys i new next le s = s.place ∙ ap (λ (l : List Y). at + length (flat (joined (map g l)))) (take_all i ys le)
 
   -- ---- counting
 

@@ -1,8 +1,8 @@
--- A resend, one kind of channel after the other: the rows, and the channels after it.
+-- A resend of channels of one kind, one after the other: the rows, and each channel after it.
 use Rattle.std.specs.Prelude.{List, map}
 use Rattle.list.specs.Find.{joined}
 use Rattle.packet.specs.declared.Resend.{Resend}
-use Rattle.model.specs.State.{OffChannel, OnChannel, Protocol}
+use Rattle.model.specs.State.{OffChannel, OnChannel}
 use Rattle.model.specs.Rust.{rows_off, rows_on, resent_off, resent_on}
 use Rattle.queues.specs.declared.out_list.Clock.{Clock}
 
@@ -23,15 +23,3 @@ off_rows c xs = joined (map (rows_of_off c) xs)
 
 abbrev pub on_rows : Clock → List OnChannel → List Resend
 on_rows c xs = joined (map (rows_of_on c) xs)
-
-abbrev pub with_offs : List OffChannel → Protocol → Protocol
-with_offs xs p = record { offs = xs; ons = p.ons; source = p.source; prefix = p.prefix; offset = p.offset; forwarding = p.forwarding }
-
-abbrev pub with_ons : List OnChannel → Protocol → Protocol
-with_ons xs p = record { offs = p.offs; ons = xs; source = p.source; prefix = p.prefix; offset = p.offset; forwarding = p.forwarding }
-
-abbrev pub offs_resent : Clock → Protocol → Protocol
-offs_resent c p = with_offs (map (off_after c) p.offs) p
-
-abbrev pub ons_resent : Clock → Protocol → Protocol
-ons_resent c p = with_ons (map (on_after c) p.ons) p

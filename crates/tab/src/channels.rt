@@ -61,8 +61,8 @@ impl Table {
         on_position(list::used(self.oncount, &self.ons), address, index)
     }
 
-    /// Where the channel that the key names stands among its kind.
-    pub(crate) fn position(&self, key: &Key) -> Option<usize>
+    /// Where the channel that the key names stands among its kind; nowhere if there is none. For any table.
+    pub fn position(&self, key: &Key) -> Option<usize>
         ensures first { result ≡ key_position key.now (state_of self.now).protocol }
         ensures within { IfSome result (λ i. i < key_count key.now self.now) }
     {

@@ -23,15 +23,15 @@ pub struct Delivery {
 }
 
 impl Delivery {
-    /// Before the first record.
-    fn none() -> Delivery
+    /// The answer of a delivery before its first record: none is counted.
+    pub fn none() -> Delivery
         ensures { result ≡ Spec.none_played }
     {
         Delivery::refused(Refusal::OutOfRange)
     }
 
     /// Refused as a whole: no record is looked at.
-    fn refused(refusal: Refusal) -> Delivery
+    pub fn refused(refusal: Refusal) -> Delivery
         ensures { result ≡ record { count = 0; last = Err refusal } }
     {
         Delivery {
@@ -59,7 +59,7 @@ impl Delivery {
 }
 
 /// A delivery is of 1 to 8 records. A malformed one among them is refused by itself, but the last one must be well made.
-fn is_well_made(records: &[Record]) -> bool
+pub fn is_well_made(records: &[Record]) -> bool
     ensures { result ≡ port.delivery_made records.now }
 {
     if records.len() > MAX_RECORDS {

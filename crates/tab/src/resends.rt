@@ -2,14 +2,13 @@
 
 ghost use Rattle.std.specs.Prelude.{◌≡◌, ◌+◌, ◌≤◌, All, length, ltb, map, IfOk};
 ghost use Rattle.list.specs.Find.{written_at};
-ghost use Rattle.model.specs.State as model;
 ghost use Rattle.model.specs.Calls as Calls;
 ghost use Rattle.model.specs.Calls.{flat};
 ghost use Rattle.model.specs.Port.{reply};
 ghost use Rattle.model.specs.Rust as Rust;
 ghost use Rattle.chan.specs.Channels.{off_of, IsOffChannel, on_of, IsOnChannel};
 ghost use Rattle.tab.specs.Tables.{IsTable, state_of};
-ghost use Rattle.tab.specs.Resending.{off_rows, on_rows, offs_resent, ons_resent};
+ghost use Rattle.tab.specs.Resending.{off_rows, on_rows, off_after, on_after};
 ghost use Rattle.tab.specs.Answers.{code_in, code_of};
 ghost use Rattle.tab.specs.Calls.{called, answer_of, rows_in};
 
@@ -25,31 +24,67 @@ fn is_late(time: u64, latest: u64) -> bool
     time < latest
 }
 
-/// How many rows these channels have.
-fn count_offs(channels: &[OffChannel], clock: Clock) -> u32
+/// How many rows a resend of these channels, at most four, lists: at most 32 for each. The clock's times are in the host's unit. Nothing is
+/// changed or refused.
+pub fn count_offs(channels: &[OffChannel], clock: Clock) -> u32
     requires few { length channels.now ≤ 4 }
     requires channels { All IsOffChannel channels.now }
     ensures rows { result ≡ length (off_rows clock (map off_of channels.now)) }
     ensures bound { result ≤ 128 }
 {
     let mut rows = 0;
-    for c in channels {
-        rows += c.count_due(clock);
+    for off in channels {
+        rows += off.count_due(clock);
     }
     rows
 }
 
-fn count_ons(channels: &[OnChannel], clock: Clock) -> u32
+/// As `count_offs`, for on-channels, at most eight.
+pub fn count_ons(channels: &[OnChannel], clock: Clock) -> u32
     requires few { length channels.now ≤ 8 }
     requires channels { All IsOnChannel channels.now }
     ensures rows { result ≡ length (on_rows clock (map on_of channels.now)) }
     ensures bound { result ≤ 256 }
 {
     let mut rows = 0;
-    for c in channels {
-        rows += c.count_due(clock);
+    for on in channels {
+        rows += on.count_due(clock);
     }
     rows
+}
+
+/// Lists the packets that are due on these channels, as address and handle, from place `at` of the lent list on, and answers the place
+/// after the rows: `OffChannel::resend` for one channel after the other. The clock's times are in the host's unit. Packets that are given
+/// up go, and those listed are last sent now. Nothing is refused: the list must have room for all rows.
+pub fn resend_offs(offs: &mut [OffChannel], clock: Clock, lent: &mut [u32], at: usize) -> usize
+    requires channels { All IsOffChannel offs.old }
+    requires room { at + length (flat (off_rows clock (map off_of offs.old))) ≤ length lent.old }
+    ensures channels { All IsOffChannel offs.new }
+    ensures items { map off_of offs.new ≡ map (off_after clock) (map off_of offs.old) }
+    ensures rows { lent.new ≡ written_at at (flat (off_rows clock (map off_of offs.old))) lent.old }
+    ensures next { result ≡ at + length (flat (off_rows clock (map off_of offs.old))) }
+{
+    let mut next = at;
+    for i in 0..offs.len() {
+        next = offs[i].resend(clock, lent, next);
+    }
+    next
+}
+
+/// As `resend_offs`, for on-channels.
+pub fn resend_ons(ons: &mut [OnChannel], clock: Clock, lent: &mut [u32], at: usize) -> usize
+    requires channels { All IsOnChannel ons.old }
+    requires room { at + length (flat (on_rows clock (map on_of ons.old))) ≤ length lent.old }
+    ensures channels { All IsOnChannel ons.new }
+    ensures items { map on_of ons.new ≡ map (on_after clock) (map on_of ons.old) }
+    ensures rows { lent.new ≡ written_at at (flat (on_rows clock (map on_of ons.old))) lent.old }
+    ensures next { result ≡ at + length (flat (on_rows clock (map on_of ons.old))) }
+{
+    let mut next = at;
+    for i in 0..ons.len() {
+        next = ons[i].resend(clock, lent, next);
+    }
+    next
 }
 
 impl Table {
@@ -62,40 +97,6 @@ impl Table {
         let offs = count_offs(&self.offs[..self.offcount as usize], clock);
         let ons = count_ons(&self.ons[..self.oncount as usize], clock);
         (offs + ons) as usize
-    }
-
-    /// Lists what is due off-channel, from place `at` on, and answers the place after the rows.
-    fn resend_offs(&mut self, clock: Clock, lent: &mut [u32], at: usize) -> usize
-        requires table { IsTable self.old }
-        requires room { at + length (flat (off_rows clock (state_of self.old).protocol.offs)) ≤ length lent.old }
-        ensures table { IsTable self.new }
-        ensures state { state_of self.new ≡ model.with_protocol (offs_resent clock (state_of self.old).protocol) (state_of self.old) }
-        ensures rows { lent.new ≡ written_at at (flat (off_rows clock (state_of self.old).protocol.offs)) lent.old }
-        ensures next { result ≡ at + length (flat (off_rows clock (state_of self.old).protocol.offs)) }
-    {
-        let n = self.offcount as usize;
-        let mut next = at;
-        for i in 0..n {
-            next = self.offs[i].resend(clock, lent, next);
-        }
-        next
-    }
-
-    /// Lists what is due on-channel, likewise.
-    fn resend_ons(&mut self, clock: Clock, lent: &mut [u32], at: usize) -> usize
-        requires table { IsTable self.old }
-        requires room { at + length (flat (on_rows clock (state_of self.old).protocol.ons)) ≤ length lent.old }
-        ensures table { IsTable self.new }
-        ensures state { state_of self.new ≡ model.with_protocol (ons_resent clock (state_of self.old).protocol) (state_of self.old) }
-        ensures rows { lent.new ≡ written_at at (flat (on_rows clock (state_of self.old).protocol.ons)) lent.old }
-        ensures next { result ≡ at + length (flat (on_rows clock (state_of self.old).protocol.ons)) }
-    {
-        let n = self.oncount as usize;
-        let mut next = at;
-        for i in 0..n {
-            next = self.ons[i].resend(clock, lent, next);
-        }
-        next
     }
 
     fn resend(&mut self, clock: Clock, lent: &mut [u32]) -> Result<usize, Refusal>
@@ -114,8 +115,8 @@ impl Table {
         if lent.len() < 2 * rows {
             return Err(Refusal::ListTooShort);
         }
-        let next = self.resend_offs(clock, lent, 0);
-        self.resend_ons(clock, lent, next);
+        let next = resend_offs(&mut self.offs[..self.offcount as usize], clock, lent, 0);
+        resend_ons(&mut self.ons[..self.oncount as usize], clock, lent, next);
         Ok(rows)
     }
 

@@ -11,7 +11,7 @@ loop-p-init c = record { channel = c.requires.channel; fed = fed_none (reliable 
 
 pub loop-p-preserved : goal.loop-p-preserved
 loop-p-preserved c = record {
-  channel = c.in_ok-add_in_reliable_packet.ensures.channel;
+  channel = c.in_ok-add_in_reliable_packet.ensures.channel c.loop-p.invariant.channel;
   fed = fed _ _ _ c.args.packets.now c.loop-p.p-index _ c.loop-p-test.true (ap (λ (m : model.OnChannel). reliable_of m) c.in_ok-add_in_reliable_packet.ensures.items) c.loop-p.invariant.fed;
 }
 

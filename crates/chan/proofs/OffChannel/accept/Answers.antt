@@ -1,11 +1,10 @@
-use Rattle.std.proofs.Common.{◌≡◌, Ok, Err, true, refl, sym, ap, ◌∙◌, arith, rules, length, ◌≤◌, ◌<◌}
-use Rattle.chan.proofs.Fits.{off_fits, on_fits, data_fits_as}
+use Rattle.std.proofs.Common.{sym, ap, ◌∙◌}
 use borrow.Author.Tests.{eq-eqb, ne_eqb}
 use Rattle.model.specs.State.{OffData, off_with}
 use Rattle.model.specs.Record.{off_record}
 use Rattle.model.specs.Room.{fits_off}
 use Rattle.chan.specs.Channels.{off_of}
-use Rattle.chan.specs.Settled.{Settled, settled}
+use Rattle.chan.specs.Settled.{settled}
 use Rattle.chan.proofs.Ruled.{off_cumulative, off_last, off_reliable, off_loose}
 use Rattle.chan.proofs.Came.{refused_result, refused_channel, by_result, by_channel}
 use Rattle.chan.proofs.OffChannel.accept.Goals as goal

@@ -1,5 +1,5 @@
-use Rattle.std.proofs.Common.{◌≡◌, Ok, Err, true, refl, sym, ap, ◌∙◌, arith, rules, length, ◌≤◌, ◌<◌}
-use Rattle.chan.proofs.Fits.{off_fits, on_fits, data_fits_as}
+use Rattle.std.proofs.Common.{◌≡◌, Err, ◌∙◌, rules}
+use Rattle.chan.proofs.Fits.{off_fits}
 use Rattle.chan.specs.Channels.{off_of}
 use Rattle.chan.proofs.Came.{off_err_result, off_err_items, off_ok_result, off_ok_items}
 use Rattle.chan.proofs.OffChannel.accept_loose.Goals as goal

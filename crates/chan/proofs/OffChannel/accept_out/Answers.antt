@@ -1,13 +1,12 @@
-use Rattle.std.proofs.Common.{◌≡◌, Ok, Err, true, refl, sym, ap, ◌∙◌, arith, rules, length, ◌≤◌, ◌<◌}
-use Rattle.chan.proofs.Fits.{off_fits, on_fits, data_fits_as}
-use borrow.Author.Tests.{eq-eqb, ne_eqb}
+use Rattle.std.proofs.Common.{◌≡◌, Err, ap, ◌∙◌, rules}
+use Rattle.chan.proofs.Fits.{data_fits_as}
 use Rattle.packet.specs.Data.{is_set}
 use Rattle.packet.specs.declared.Refusal.TheVariants.{OverLimit}
 use Rattle.model.specs.State.{OffData, off_with}
 use Rattle.model.specs.Rust.{forward_off}
 use Rattle.model.specs.Room.{fits_off}
 use Rattle.chan.specs.Channels.{off_of}
-use Rattle.chan.specs.Settled.{Settled, settled}
+use Rattle.chan.specs.Settled.{settled}
 use Rattle.chan.proofs.Came.{refused_result, refused_channel, kept_result, kept_channel, off_out_cumulative, off_out_over, off_out_kept, some_set, none_set}
 use Rattle.chan.proofs.OffChannel.accept_out.Goals as goal
 

@@ -1,7 +1,6 @@
-use Rattle.std.proofs.Common.{◌≡◌, Ok, Err, true, refl, sym, ap, ◌∙◌, arith, rules, length, ◌≤◌, ◌<◌}
-use Rattle.chan.proofs.Fits.{off_fits, on_fits, data_fits_as}
+use Rattle.std.proofs.Common.{◌≡◌, Err, ap, ◌∙◌, rules}
+use Rattle.chan.proofs.Fits.{off_fits}
 use Rattle.model.specs.State.{OffData}
-use Rattle.packet.specs.declared.Refusal.TheVariants.{OverLimit}
 use Rattle.chan.specs.Channels.{off_of}
 use Rattle.chan.proofs.Came.{reliable_err_result, reliable_err_channel, reliable_err_items, reliable_full_result, reliable_full_channel, acks_kept, reliable_ok_result, reliable_ok_items, is_full_by, has_room_by, room_left}
 use Rattle.chan.proofs.OffChannel.accept_reliable.Goals as goal
@@ -28,7 +27,7 @@ returns-in_err-add_in_packet-clause-items c = reliable_err_items c.args.time c.a
 
 pub queue_ack-requires-clause-room : goal.queue_ack-requires-clause-room
 queue_ack-requires-clause-room c =
-    room_left c.args.self.now.off _ (c.acked_off.ensures.data c.in_ok-add_in_packet.ensures.data) (has_room_by c.args.self.now.off c.requires.off _ c.is_ack_queue_full.ensures c.if-is_ack_queue_full.false)
+    room_left c.args.self.now.off _ (c.acked_off.ensures.data (c.in_ok-add_in_packet.ensures.data c.requires.off)) (has_room_by c.args.self.now.off c.requires.off _ c.is_ack_queue_full.ensures c.if-is_ack_queue_full.false)
     (ap (λ (d : OffData). d.acks) c.acked_off.ensures.items ∙ acks_kept c.args.time c.args.r.now (off_of c.args.self.now) (off_fits c.args.self.now c.requires) _ c.packet-2.ensures _ c.in_ok-add_in_packet.ensures.items)
 
 pub returns-clause-result : goal.returns-clause-result

@@ -11,7 +11,7 @@ at-group-requires-clause-there c = there c.args.g c.args.place c.args.handle c.a
 pub returns-then-is_stale-clause-given : goal.returns-then-is_stale-clause-given
 returns-then-is_stale-clause-given c =
     let s = seen (stale c.args.time) _ _ _ _ c.at-group.ensures.item c.is_stale.ensures c.if-is_stale.true in
-    gives_as _ _ _ _ _ (is_stale c.args.g c.args.place c.args.handle c.args.time (data_of c.args.self.now) s) (gives_ok _ _ _ c.requires.data refl)
+    gives_as _ _ _ _ _ (is_stale c.args.g c.args.place c.args.handle c.args.time (data_of c.args.self.now) s) (gives_ok _ _ _ c.requires.ready refl)
 
 pub returns-then-is_beyond-clause-given : goal.returns-then-is_beyond-clause-given
 returns-then-is_beyond-clause-given c =
@@ -36,5 +36,5 @@ returns-clause-given c =
     let f = seen (is_beyond c.args.place) _ _ _ _ c.at-group.ensures.item c.is_beyond.ensures c.if-is_beyond.false in
     let w = seen (λ (x : model.Group). full (store c.args.place c.args.handle c.args.time x)) _ _ _ _ c.at-group.ensures.item (c.fills.ensures c.args.handle c.args.time) c.if-fills.false in
     gives_as _ _ _ _ _ (is_stored c.args.g c.args.place c.args.handle c.args.time (data_of c.args.self.now) s f false w)
-    (gives_ok _ _ _ (record { out = c.requires.data.out; acks = c.requires.data.acks; groups = c.store.ensures.groups; bundles = c.requires.data.bundles })
+    (gives_ok _ _ _ (record { out = c.requires.ready.out; acks = c.requires.ready.acks; groups = c.store.ensures.groups; bundles = c.requires.ready.bundles })
     (replaced (data_of c.args.self.now) _ _ _ _ (c.store.ensures.items ∙ put_there c.args.g c.args.place c.args.handle c.args.time (data_of c.args.self.now) c.requires.there _) refl))

@@ -11,5 +11,5 @@ returns-in_err-push_one-clause-given c =
 
 pub returns-clause-given : goal.returns-clause-given
 returns-clause-given c =
-    gives_ok _ _ _ (record { out = c.requires.out; acks = c.requires.acks; groups = c.requires.groups; bundles = c.push_one.ensures.bundles })
+    gives_ok _ _ _ (record { out = c.requires.ready.out; acks = c.requires.ready.acks; groups = c.requires.ready.groups; bundles = c.push_one.ensures.bundles })
     (replaced (data_of c.args.self.now) _ _ _ _ refl c.in_ok-push_one.ensures.items)

@@ -17,6 +17,6 @@ pub returns-clause-given : goal.returns-clause-given
 returns-clause-given c =
     let stored = c.store.ensures.stored ∙ ap (store c.args.place c.args.handle c.args.time) c.at.ensures.item in
     let handles = c.handles.ensures ∙ ap (λ (x : model.Group). in_places x.places) stored in
-    gives_ok _ _ _ (record { out = c.requires.data.out; acks = c.requires.data.acks; groups = c.remove.ensures.groups; bundles = c.push_handles.ensures.bundles })
+    gives_ok _ _ _ (record { out = c.requires.ready.out; acks = c.requires.ready.acks; groups = c.remove.ensures.groups; bundles = c.push_handles.ensures.bundles })
     (replaced (data_of c.args.self.now) _ _ _ _ (c.remove.ensures.items ∙ gone c.args.g c.args.place c.args.handle c.args.time (data_of c.args.self.now) c.requires.there)
     (c.in_ok-push_handles.ensures.items ∙ ap (λ (l : List ℕ). bundles_of c.args.self.now.bundles ++ l ∷ []) handles))

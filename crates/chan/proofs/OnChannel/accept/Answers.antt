@@ -1,12 +1,10 @@
-use Rattle.std.proofs.Common.{◌≡◌, Ok, Err, true, refl, sym, ap, ◌∙◌, arith, rules, length, ◌≤◌, ◌<◌}
-use Rattle.chan.proofs.Fits.{off_fits, on_fits, data_fits_as}
+use Rattle.std.proofs.Common.{sym, ap, ◌∙◌}
 use borrow.Author.Tests.{eq-eqb, ne_eqb}
 use Rattle.model.specs.State.{OffData, on_with}
 use Rattle.model.specs.Record.{on_record}
 use Rattle.model.specs.Room.{fits_on}
 use Rattle.chan.specs.Channels.{on_of}
-use Rattle.chan.specs.Settled.{Settled, settled}
-use Rattle.chan.specs.Rules.{on_acked}
+use Rattle.chan.specs.Settled.{settled}
 use Rattle.chan.proofs.Ruled.{on_old, on_last, on_reliable, on_loose}
 use Rattle.chan.proofs.Came.{refused_result, refused_channel, by_result, by_channel, ltb_yes, ltb_no}
 use Rattle.chan.proofs.OnChannel.accept.Goals as goal

@@ -1,5 +1,5 @@
-use Rattle.std.proofs.Common.{◌≡◌, Ok, Err, true, refl, sym, ap, ◌∙◌, arith, rules, length, ◌≤◌, ◌<◌}
-use Rattle.chan.proofs.Fits.{off_fits, on_fits, data_fits_as}
+use Rattle.std.proofs.Common.{◌≡◌, Err, ◌∙◌, rules}
+use Rattle.chan.proofs.Fits.{on_fits}
 use Rattle.chan.specs.Channels.{on_of}
 use Rattle.chan.proofs.Came.{on_err_result, on_err_items, on_ok_result, on_ok_items}
 use Rattle.chan.proofs.OnChannel.accept_loose.Goals as goal

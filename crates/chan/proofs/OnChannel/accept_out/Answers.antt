@@ -1,13 +1,12 @@
-use Rattle.std.proofs.Common.{◌≡◌, Ok, Err, true, refl, sym, ap, ◌∙◌, arith, rules, length, ◌≤◌, ◌<◌}
-use Rattle.chan.proofs.Fits.{off_fits, on_fits, data_fits_as}
-use borrow.Author.Tests.{eq-eqb, ne_eqb}
+use Rattle.std.proofs.Common.{◌≡◌, Err, ap, ◌∙◌, rules}
+use Rattle.chan.proofs.Fits.{on_fits, data_fits_as}
 use Rattle.packet.specs.declared.Refusal.TheVariants.{OverLimit}
 use Rattle.model.specs.State.{OffData, on_with}
 use Rattle.model.specs.Record.{granted}
 use Rattle.model.specs.Rust.{forward_on}
 use Rattle.model.specs.Room.{fits_on}
 use Rattle.chan.specs.Channels.{on_of}
-use Rattle.chan.specs.Settled.{Settled, settled}
+use Rattle.chan.specs.Settled.{settled}
 use Rattle.chan.proofs.Came.{refused_result, refused_channel, kept_result, kept_channel, out_over, out_kept}
 use Rattle.chan.proofs.OnChannel.accept_out.Goals as goal
 

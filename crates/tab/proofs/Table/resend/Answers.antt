@@ -2,9 +2,8 @@ use Rattle.std.proofs.Common.{◌≡◌, ◌∙◌, sym, ap}
 use borrow.Author.Tests.{ltb-true, ltb-false}
 use Rattle.packet.specs.declared.Refusal.TheVariants.{TimeBelow, ListTooShort}
 use Rattle.model.specs.State as model
-use Rattle.model.specs.Rust.{all_rows}
 use Rattle.model.specs.Calls as Calls
-use Rattle.model.specs.Port.{Reply, reply, timed, refuse, grant}
+use Rattle.model.specs.Port.{Reply, reply, timed, refuse}
 use Rattle.tab.specs.Tables.{state_of}
 use Rattle.tab.specs.Calls.{answer_of, rows_in}
 use Rattle.tab.proofs.SendPlace.{late_is, due_is}
@@ -45,19 +44,17 @@ resend_offs-next-requires-clause-room c = offs_room c.args.clock c.args.self.now
 pub resend_ons-requires-clause-room : goal.resend_ons-requires-clause-room
 resend_ons-requires-clause-room c =
     ons_room c.args.clock c.args.self.now c.args.lent.now _ c.count_rows-rows.ensures.rows c.if-lent-rows.false (ltb-false c.args.clock.time c.args.self.now.latest (sym c.is_late.ensures ∙ c.if-is_late.false))
-    _ _ _ c.resend_offs-next.ensures.state c.resend_offs-next.ensures.rows c.resend_offs-next.ensures.next
+    _ _ c.resend_offs-next.ensures.rows c.resend_offs-next.ensures.next
 
 pub returns-clause-state : goal.returns-clause-state
 returns-clause-state c =
     again_state c.args.clock c.args.self.now c.args.lent.now _ c.count_rows-rows.ensures.rows c.if-lent-rows.false (ltb-false c.args.clock.time c.args.self.now.latest (sym c.is_late.ensures ∙ c.if-is_late.false))
-    _ _ _ c.resend_offs-next.ensures.state c.resend_offs-next.ensures.rows c.resend_offs-next.ensures.next _ _ c.resend_ons.ensures.state c.resend_ons.ensures.rows
+    c.requires _ _ c.resend_offs-next.ensures.items _ _ c.resend_ons.ensures.items
 
 pub returns-clause-answer : goal.returns-clause-answer
-returns-clause-answer c =
-    again_answer c.args.clock c.args.self.now c.args.lent.now _ c.count_rows-rows.ensures.rows c.if-lent-rows.false (ltb-false c.args.clock.time c.args.self.now.latest (sym c.is_late.ensures ∙ c.if-is_late.false))
-    _ _ _ c.resend_offs-next.ensures.state c.resend_offs-next.ensures.rows c.resend_offs-next.ensures.next _ _ c.resend_ons.ensures.state c.resend_ons.ensures.rows
+returns-clause-answer c = again_answer c.args.clock c.args.self.now c.args.lent.now _ c.count_rows-rows.ensures.rows c.if-lent-rows.false (ltb-false c.args.clock.time c.args.self.now.latest (sym c.is_late.ensures ∙ c.if-is_late.false))
 
 pub returns-clause-lent : goal.returns-clause-lent
 returns-clause-lent c =
     again_lent c.args.clock c.args.self.now c.args.lent.now _ c.count_rows-rows.ensures.rows c.if-lent-rows.false (ltb-false c.args.clock.time c.args.self.now.latest (sym c.is_late.ensures ∙ c.if-is_late.false))
-    _ _ _ c.resend_offs-next.ensures.state c.resend_offs-next.ensures.rows c.resend_offs-next.ensures.next _ _ c.resend_ons.ensures.state c.resend_ons.ensures.rows
+    _ _ c.resend_offs-next.ensures.rows c.resend_offs-next.ensures.next _ c.resend_ons.ensures.rows

@@ -1,4 +1,4 @@
-use Rattle.std.proofs.Common.{arith, sym, ap, ◌∙◌, drop}
+use Rattle.std.proofs.Common.{sym, ap, ◌∙◌, drop}
 use Rattle.list.specs.Find.{written}
 use Rattle.queues.specs.Made.{front}
 use Rattle.queues.proofs.Fronts.{no_bundle, short, popped, popped_items}

@@ -1,4 +1,4 @@
-use Rattle.std.proofs.Common.{arith, refl, sym, ap, ◌∙◌, length-take, slice_index_or}
+use Rattle.std.proofs.Common.{arith, refl, sym, ap, length-take, slice_index_or}
 use Rattle.list.specs.Find.{written}
 use Rattle.queues.specs.Made.{front}
 use Rattle.queues.proofs.Fronts.{no_bundle, in_all, front_is, front_size}
