@@ -3,6 +3,9 @@
 
 ghost use Rattle.queues.specs.Made.{IsBundles};
 
+#[cfg(test)]
+mod tests;
+
 use packet::Refusal;
 use queues::Bundles;
 use std::io::Write;
@@ -26,7 +29,12 @@ pub struct After(pub u64);
 
 /// A bundle: its handles with dots between.
 #[derive(Clone, Copy)]
-pub struct Made<'a>(pub &'a [u32]);
+pub struct Bundle<'a>(pub &'a [u32]);
+
+/// The bundles in the order in which they are handed out: each after a blank, its handles with dots between. They may be any: where a
+/// length is more than the handles that are left, what is written ends before that bundle.
+#[derive(Clone, Copy)]
+pub struct Made<'a>(pub &'a Bundles);
 
 impl fmt::Display for YesNo {
     fn fmt<W: fmt::Write>(&self, f: &mut fmt::Formatter<W>) -> fmt::Result {
@@ -58,9 +66,23 @@ impl fmt::Display for After {
     }
 }
 
-impl fmt::Display for Made<'_> {
+impl fmt::Display for Bundle<'_> {
     fn fmt<W: fmt::Write>(&self, f: &mut fmt::Formatter<W>) -> fmt::Result {
         f.write_joined(self.0.iter(), ".")
+    }
+}
+
+impl fmt::Display for Made<'_> {
+    fn fmt<W: fmt::Write>(&self, f: &mut fmt::Formatter<W>) -> fmt::Result {
+        let mut rest: &[u32] = &self.0.handles;
+        for len in self.0.lengths.iter().take(self.0.len as usize) {
+            let Some((bundle, after)) = rest.split_at_checked(*len as usize) else {
+                break;
+            };
+            write!(f, " {}", Bundle(bundle))?;
+            rest = after;
+        }
+        Ok(())
     }
 }
 
@@ -80,7 +102,7 @@ pub fn all_bundles<W: Write>(out: &mut W, b: &Bundles) -> io::Result<()>
     while let Some(len) = rest.front_len() {
         let mut list = [0; 64];
         rest.pop_front(&mut list);
-        write!(out, " {}", Made(&list[..len]))?;
+        write!(out, " {}", Bundle(&list[..len]))?;
     }
     Ok(())
 }

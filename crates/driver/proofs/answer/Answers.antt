@@ -4,7 +4,7 @@ use Rattle.driver.proofs.Answering.{writing_start, writing_next, writing_end}
 use Rattle.driver.proofs.answer.Goals as goal
 
 pub loop-at-init : goal.loop-at-init
-loop-at-init g c = (refl, writing_start _ _ _ c.new-relay.ensures.start)
+loop-at-init g c = (refl, c.new-relay.ensures.held, writing_start _ _ _ c.new-relay.ensures.start)
 
 pub loop-at-smaller : goal.loop-at-smaller
 loop-at-smaller g c =
@@ -15,7 +15,7 @@ loop-at-smaller g c =
 
 pub loop-at-preserved : goal.loop-at-preserved
 loop-at-preserved g c =
-    (search rules, writing_next _ _ _ _ _ _ _ _ _ c.loop-at.invariant.1 c.run-r.ensures.told c.in_ok-write_all.ensures.bytes)
+    (search rules, c.run-r.ensures.held c.loop-at.invariant.1, writing_next _ _ _ _ _ _ _ _ _ c.loop-at.invariant.2 c.run-r.ensures.told c.in_ok-write_all.ensures.bytes)
 
 pub returns : goal.returns
-returns g c = writing_end _ _ _ _ _ c.requires (omega (arith, c.loop-at-test.false)) c.loop-at.invariant.1
+returns g c = writing_end _ _ _ _ _ c.requires (omega (arith, c.loop-at-test.false)) c.loop-at.invariant.2
